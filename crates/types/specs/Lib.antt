@@ -1,0 +1,2 @@
+-- A byte that is a number or none.
+pub mod Opt
