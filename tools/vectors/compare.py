@@ -1,0 +1,297 @@
+"""Holds Lua's answers and the Rust's against the reference, and writes what the repository keeps.
+
+    compare.py FOLDER
+
+FOLDER has lua.list, and the Rust's answers with overflow checks (checked.list, .loops, .facts) and as a release
+(released.list, .loops, .facts); make.sh puts them there. Written into it: stdin (Lua's list, then the Rust's with `-`
+wherever it differs from document 01), stdout (what the replayer must print of it) and differences.md. It stops with an
+error where Lua differs from the reference anywhere, or the Rust where no rule of RULES says so.
+"""
+import re
+import sys
+from collections import namedtuple
+from fractions import Fraction
+
+import reference
+from reference import INTEGER, NUMBER, STRING, signed
+
+Section = namedtuple("Section", "numbers source name values results")
+Difference = namedtuple("Difference", "rule name operands wanted checked released")
+ARITY = {"negate": 1, "bitwise_not": 1, "past_end": 3}
+SIGN = {
+    "negate": "-", "bitwise_not": "~", "add": "+", "subtract": "-", "multiply": "*", "float_divide": "/",
+    "floor_divide": "//", "modulo": "%", "bitwise_and": "&", "bitwise_or": "|", "bitwise_xor": "~", "shift_left": "<<",
+    "shift_right": ">>", "is_equal": "==", "less_than": "<", "less_equal": "<=", "NumericForLoop": ",",
+}
+
+
+# The lists.
+
+def value_of(line):
+    if line[0] == "s":
+        return (STRING, bytes.fromhex(line[4:]))
+    return (int(line[1]), int(line[3:], 16))
+
+
+def line_of(value):
+    kind, word = value
+    return "s%02x %s" % (len(word), word.hex()) if kind == STRING else "v%d %016x" % (kind, word)
+
+
+def sections(path):
+    """The operators of a list, each with the values that it is about and its results in order."""
+    found, values = [], []
+    for line in open(path).read().split("\n")[:-1]:
+        if line[0] == "w":
+            values = []
+        elif line[0] in "vs":
+            values.append(value_of(line))
+        elif line[0] == "o":
+            source, name = line[14:].split(" ", 1)
+            found.append(Section(line[1:6], source, name, values, []))
+        else:
+            results = re.findall("[in][0-9a-f]{16}|[tfep-]", line)
+            assert "".join(results) == line, line
+            found[-1].results.extend(results)
+    for s in found:
+        assert len(s.results) == len(s.values) ** arity(s), s.name
+    return found
+
+
+def list_of(all_sections):
+    lines, values = [], None
+    for s in all_sections:
+        if s.values is not values:
+            values = s.values
+            lines += ["w%02x" % len(values)] + [line_of(v) for v in values]
+        lines.append("o%s %06x %s %s" % (s.numbers, len(s.results), s.source, s.name))
+        n = len(values)
+        lines += ["".join(s.results[i:i + n]) for i in range(0, len(s.results), n)]
+    return "\n".join(lines) + "\n"
+
+
+def plain(section):
+    return section.name.removeprefix("strings ")
+
+
+def arity(section):
+    return ARITY.get(plain(section), 2)
+
+
+def vectors(section):
+    """Each result with its operands and what document 01 says."""
+    n, operator = len(section.values), reference.OPERATORS[plain(section)]
+    for p, got in enumerate(section.results):
+        places = [p // n ** k % n for k in range(arity(section))][::-1]
+        operands = [section.values[i] for i in places]
+        yield operands, got, operator(*operands)
+
+
+def loops(path):
+    """The results of NumericForLoop with their operands and what document 01 says."""
+    for line in open(path):
+        *words, got = line.split()
+        operands = [(int(words[i]), int(words[i + 1], 16)) for i in (0, 2, 4)]
+        yield operands, got, reference.numeric_for_loop(*operands)
+
+
+# Where the Rust differs, by document 01's section "Where the Rust misleads".
+
+def kinds(operands):
+    return [v[0] for v in operands]
+
+
+def truncates(name, operands):
+    if name != "floor_divide" or kinds(operands) != [INTEGER, INTEGER]:
+        return False
+    a, b = (signed(v[1]) for v in operands)
+    return (a < 0) != (b < 0) and a % b != 0
+
+
+def has_no_quotient(name, operands):
+    return name == "modulo" and operands == [(INTEGER, 2**63), (INTEGER, 2**64 - 1)]
+
+
+def overflows(name, operands):
+    if name != "modulo" or kinds(operands) != [INTEGER, INTEGER]:
+        return False
+    a, b = (signed(v[1]) for v in operands)
+    rest = abs(a) % abs(b) * (-1 if a < 0 else 1)
+    return not -2**63 <= rest + b < 2**63
+
+
+def takes_two_to_63(name, operands):
+    return name.startswith(("bitwise", "shift")) and (NUMBER, 0x43E0000000000000) in operands
+
+
+def rounds_first(name, operands):
+    return name in ("is_equal", "less_than", "less_equal") and sorted(kinds(operands)) == [INTEGER, NUMBER]
+
+
+def shifts_far(name, operands):
+    if not name.startswith("shift"):
+        return False
+    count = reference.to_integer(operands[1])
+    return count is not None and not 0 <= count < 64
+
+
+def turns_to_numbers(name, operands):
+    return name == "NumericForLoop" and kinds(operands) == [INTEGER, NUMBER, INTEGER]
+
+
+def rounds_limit(name, operands):
+    return name == "NumericForLoop" and operands[1][0] == INTEGER and NUMBER in kinds(operands)
+
+
+def index_overflows(name, operands):
+    if name != "NumericForLoop" or NUMBER in kinds(operands):
+        return False
+    return not -2**63 <= signed(operands[0][1]) + signed(operands[2][1]) < 2**63
+
+
+RULES = [
+    (truncates, "`floor_divide` uses `wrapping_div`: it rounds toward zero"),
+    (has_no_quotient, "`modulo` panics at W4"),
+    (overflows, "`modulo` overflows at W5, in (a % b) + b"),
+    (takes_two_to_63, "`to_integer` accepts 2^63"),
+    (rounds_first, "mixed comparison rounds first (W8)"),
+    (shifts_far, "a shift isn't defined below 0 or past 63"),
+    (turns_to_numbers, "an integer loop with a limit that is a number turns to floats"),
+    (rounds_limit, "a loop of numbers rounds an integer limit first"),
+    (index_overflows, "an integer loop's index + step overflows"),
+]
+
+
+def rule_of(name, operands):
+    for holds, text in RULES:
+        if holds(name, operands):
+            return text
+    sys.exit("no rule: %s %s" % (name, operands))
+
+
+def differences_of(name, checked, released):
+    """The Rust's results with `-` wherever it differs from document 01, and the differences."""
+    kept, differences = [], []
+    for (operands, got, want), (_, loose, _) in zip(checked, released, strict=True):
+        if got not in ("p", loose):
+            sys.exit("the two builds differ: %s %s: %s, %s" % (name, operands, got, loose))
+        kept.append(got if got == want else "-")
+        if got != want:
+            differences.append(Difference(rule_of(name, operands), name, operands, want, got, loose))
+    return kept, differences
+
+
+# What is written.
+
+def shown(value):
+    kind, word = value
+    if kind == INTEGER:
+        return str(signed(word))
+    if kind == NUMBER:
+        if reference.is_nan(word):
+            return "nan"
+        if reference.is_infinite(word):
+            return "-inf" if reference.negative(word) else "inf"
+        q = reference.exact(word)
+        return "%s%d.0" % ("-" if reference.negative(word) else "", abs(q)) if q.denominator == 1 else repr(float(q))
+    return "nil" if kind == 0 else "true" if word else "false"
+
+
+def shown_result(result):
+    if result[0] in "in" and len(result) >= 17:
+        value = shown((INTEGER if result[0] == "i" else NUMBER, int(result[1:17], 16)))
+        return value + {"": "", "t": ", past", "f": ", on"}[result[17:]]
+    return {"t": "true", "f": "false", "e": "error", "p": "panic"}.get(result, result)
+
+
+def shown_vector(name, operands):
+    texts, sign = [shown(v) for v in operands], SIGN[name].replace("|", "\\|")
+    return sign + texts[0] if len(texts) == 1 else (", " if sign == "," else " %s " % sign).join(texts)
+
+
+def weight(operands):
+    """Small operands first, and of the same size the positive ones; infinities and NaN last."""
+    def exact(v):
+        if v[0] == INTEGER:
+            return Fraction(signed(v[1]))
+        return reference.exact(v[1]) if v[1] % 2**63 < reference.INFINITY else Fraction(2) ** 1024
+    whole = [exact(v) for v in operands]
+    return (sum(abs(q) for q in whole), [-q for q in whole])
+
+
+def smallest(group):
+    """The smallest example, one that the release shows too where there is one."""
+    return min(group, key=lambda d: (d.released == d.wanted, weight(d.operands)))
+
+
+def expected(all_sections):
+    lines, total = [], 0
+    for s in all_sections:
+        compared = sum(r != "-" for r in s.results)
+        total += compared
+        lines.append("%s %s: compared %d, different 0" % (s.source, s.name, compared))
+    return "\n".join(lines + ["all %d agree" % total]) + "\n"
+
+
+def table(differences, facts):
+    lines = [
+        "<!-- Written by compare.py. -->",
+        "# Where the Rust differs from document 01, on the operands of values.txt",
+        "",
+        "Built twice: with overflow checks, and as a release. Where the first doesn't panic the two agree, and its answers",
+        "are the list that is kept. `vectors` counts those that differ from document 01, `panics` how many of them are",
+        "panics, and `by chance` how many the release, where nothing is checked, has right all the same.",
+        "",
+        "| The Rust | operator | vectors | panics | by chance | smallest | document 01 | Rust | release |",
+        "|---|---|---|---|---|---|---|---|---|",
+    ]
+    for _, rule in RULES:
+        for name in SIGN:
+            group = [d for d in differences if d.rule == rule and d.name == name]
+            if group:
+                d = smallest(group)
+                lines.append("| %s | %s | %d | %d | %d | `%s` | %s | %s | %s |" % (
+                    rule, name, len(group), sum(d.checked == "p" for d in group),
+                    sum(d.released == d.wanted for d in group), shown_vector(name, d.operands),
+                    shown_result(d.wanted), shown_result(d.checked), shown_result(d.released)))
+    lines += [
+        "",
+        "NumericForLoop is shown by index, limit and step, and answers the new index and whether it is past the end.",
+        "",
+        "Single inputs, run the same way:",
+        "",
+        "| input | Rust | release |",
+        "|---|---|---|",
+    ]
+    lines += ["| `%s` | %s | %s |" % (text, shown_result(a), shown_result(b)) for text, a, b in facts]
+    return "\n".join(lines) + "\n"
+
+
+def main(folder):
+    def path(name):
+        return folder + "/" + name
+
+    def facts_of(name):
+        return [line.split("\t") for line in open(path(name)).read().splitlines()]
+
+    lua = sections(path("lua.list"))
+    assert list_of(lua) == open(path("lua.list")).read()
+    for s in lua:
+        for operands, got, want in vectors(s):
+            if got not in (want, "-"):
+                sys.exit("Lua differs: %s %s: %s, not %s" % (s.name, operands, got, want))
+
+    rust, differences = [], []
+    for s, r in zip(sections(path("checked.list")), sections(path("released.list")), strict=True):
+        results, found = differences_of(plain(s), vectors(s), vectors(r))
+        rust.append(s._replace(results=results))
+        differences += found
+    differences += differences_of("NumericForLoop", loops(path("checked.loops")), loops(path("released.loops")))[1]
+
+    facts = [(a[0], a[1], b[1]) for a, b in zip(facts_of("checked.facts"), facts_of("released.facts"), strict=True)]
+    open(path("stdin"), "w").write(list_of(lua) + list_of(rust))
+    open(path("stdout"), "w").write(expected(lua + rust))
+    open(path("differences.md"), "w").write(table(differences, facts))
+
+
+main(sys.argv[1])
