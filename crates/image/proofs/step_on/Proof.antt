@@ -1,0 +1,96 @@
+-- `image::step_on` meets its contract, an arm of the match for each clause of `stepOf`. Assumes nothing.
+use borrow.Author.Needs.{needs}
+use mathlib.Core.Path.{refl}
+use borrow.Author.Tests.{lt-ltb, le-ltb, eq-eqb, ne-eqb}
+use Rattle.image.specs.Judge.{stepOf}
+use Rattle.image.proofs.step_on.Statement.{statement}
+use Rattle.image.proofs.step_on.Tie as tie
+
+enum-told : tie.Need-enum-told
+enum-told c = search needs
+
+add-t9 : tie.Need-add-t9
+add-t9 c = search needs
+
+returns : tie.Need-returns
+unfolding stepOf
+returns c = rw (c .before .enum-told .given .1) (simp (lt-ltb _ _ (c .if1 .taken)))
+
+enum-told-2 : tie.Need-enum-told-2
+enum-told-2 c = search needs
+
+const-step-requires : tie.Need-const-step-requires
+const-step-requires c κs = search needs
+
+enum-told-3 : tie.Need-enum-told-3
+enum-told-3 c = search needs
+
+const-step-requires-2 : tie.Need-const-step-requires-2
+const-step-requires-2 c κs = search needs
+
+enum-told-4 : tie.Need-enum-told-4
+enum-told-4 c = search needs
+
+code-step-requires : tie.Need-code-step-requires
+code-step-requires c κs = search needs
+
+enum-known-f : tie.Need-enum-known-f
+enum-known-f c = search needs
+
+cast-if2 : tie.Need-cast-if2
+cast-if2 c = search needs
+
+returns-2 : tie.Need-returns-2
+unfolding stepOf
+returns-2 c = rw (c .before .before .f .given .1) (simp (eq-eqb _ _ (c .if2 .taken)))
+
+enum-known-f-2 : tie.Need-enum-known-f-2
+enum-known-f-2 c = search needs
+
+returns-3 : tie.Need-returns-3
+unfolding stepOf
+returns-3 c = rw (c .before .enum-told .given .1) (simp (le-ltb _ _ (c .if1 .left)))
+
+returns-4 : tie.Need-returns-4
+unfolding stepOf
+returns-4 c = rw (c .before .enum-told2 .given .1) (c .const-step .ensures)
+
+returns-5 : tie.Need-returns-5
+unfolding stepOf
+returns-5 c = rw (c .before .enum-told3 .given .1) (c .const-step2 .ensures)
+
+returns-6 : tie.Need-returns-6
+unfolding stepOf
+returns-6 c = rw (c .before .enum-told4 .given .1) (c .code-step .ensures)
+
+returns-7 : tie.Need-returns-7
+unfolding stepOf
+returns-7 c = rw (c .before .before .f .given .1) (simp (ne-eqb _ _ (c .if2 .left)))
+
+returns-8 : tie.Need-returns-8
+unfolding stepOf
+returns-8 c = rw (c .before .f2 .given .1) refl
+
+pub step-on-spec : {M : Type 1} → statement M
+step-on-spec =
+    tie.close
+    (tie.spec
+    enum-told
+    add-t9
+    returns
+    enum-told-2
+    const-step-requires
+    enum-told-3
+    const-step-requires-2
+    enum-told-4
+    code-step-requires
+    enum-known-f
+    cast-if2
+    returns-2
+    enum-known-f-2
+    returns-3
+    returns-4
+    returns-5
+    returns-6
+    returns-7
+    returns-8)

@@ -1,0 +1,39 @@
+-- `storage::growth` meets its contract: where the table ends before cell q, the next entry reads as zeros. Assumes nothing.
+use Prim.Native.Nat.{ℕ, _+_, _-_, _*_, _≤_}
+use mathlib.Core.Path.{_≡_}
+use mathlib.Core.List.{List}
+use native.Mathlib.Omega.{arith}
+use lib.ListN.{length, getD}
+use borrow.Author.Needs.{needs}
+use Rattle.slices.proofs.Loops.{past}
+use Rattle.storage.proofs.growth.Statement.{statement}
+use Rattle.storage.proofs.growth.Tie as tie
+
+none : (l : List ℕ) (q i : ℕ) → length l ≤ q → 0 ≡ getD l (1 + 4 * (q + 1) + i) 0 - getD l (1 + 4 * q + i) 0
+none l q i h = omega (arith, past l (1 + 4 * (q + 1) + i) (omega arith))
+
+returns : tie.Need-returns
+returns c = let a = c .before .before .args in none (a .table .now) (a .q) (a .i) (c .if1 .taken)
+
+field-at-requires : tie.Need-field-at-requires
+field-at-requires c κs = search needs
+
+add-field-at : tie.Need-add-field-at
+add-field-at c = search needs
+
+field-at-requires-2 : tie.Need-field-at-requires-2
+field-at-requires-2 c κs = search needs
+
+returns-2 : tie.Need-returns-2
+returns-2 c = search needs
+
+sub-result : tie.Need-sub-result
+sub-result c = search needs
+
+returns-3 : tie.Need-returns-3
+returns-3 c = search needs
+
+pub growth-spec : {M : Type 1} → statement M
+growth-spec =
+    tie.close
+    (tie.spec returns field-at-requires add-field-at field-at-requires-2 returns-2 sub-result returns-3)

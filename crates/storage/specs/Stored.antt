@@ -1,0 +1,92 @@
+-- The image that a storage says, and the test behind 6: "no image reads to this storage's prototypes". Assumes nothing.
+-- proofs/Six shows both directions: `readsBack S` is true exactly when there is an image that reads to S, and `imageIn S` is then the only one.
+use Prim.Native.Nat.{ℕ, zero, suc, _+_}
+use mathlib.Core.Path.{_≡_}
+use mathlib.Core.Bool.{Bool, true, false}
+use mathlib.Core.List.{List, [], _∷_, _++_}
+use lib.ListN.{length, getD, take}
+use lib.Dec.{eqb}
+use Rattle.slices.specs.Ranges.{textAt}
+use Rattle.image.specs.Hex.{pick}
+use Rattle.image.specs.Frames.{F, opens, const, str, code, ends, framesOf}
+use Rattle.image.specs.Judge.{judgeOf}
+use Rattle.image.specs.Write.{written}
+use Rattle.image.specs.declared.Judged.{Judged}
+use Rattle.image.specs.declared.Judged.the-variants.{Accepted, Refused}
+use Rattle.storage.specs.Layout.{Storage, contentsOf}
+use Rattle.storage.specs.Fields.{prototypesOf, registersOf, parametersOf, firstConstant, firstInstruction, constantsOf, instructionsOf}
+use Rattle.storage.specs.declared.Validity.{Validity}
+use Rattle.storage.specs.declared.Validity.the-variants.{Bytes, Six}
+
+-- ---- the frames that a storage says
+
+-- constant i of the whole image
+unfoldable pub constFrame : Storage → ℕ → F
+constFrame S i =
+    pick (eqb (getD (S .kinds) i 0) 4) (str (textAt (getD (S .words) i 0) (S .texts)))
+    (const (getD (S .kinds) i 0) (getD (S .words) i 0))
+
+-- n constants from i on, n instructions from i on
+unfoldable pub constFrames : Storage → ℕ → ℕ → List F
+constFrames S zero i = []
+constFrames S (suc n) i = constFrame S i ∷ constFrames S n (i + 1)
+
+unfoldable pub codeFrames : Storage → ℕ → ℕ → List F
+codeFrames S zero i = []
+codeFrames S (suc n) i = code (getD (S .code) i 0) ∷ codeFrames S n (i + 1)
+
+-- prototype q; n prototypes from q on; all of them and e0
+unfoldable pub protoFrames : Storage → ℕ → List F
+protoFrames S q =
+    opens (registersOf (S .table) q) (parametersOf (S .table) q)
+    ∷ constFrames S (constantsOf (S .table) q) (firstConstant (S .table) q)
+    ++ codeFrames S (instructionsOf (S .table) q) (firstInstruction (S .table) q)
+
+unfoldable pub protosFrames : Storage → ℕ → ℕ → List F
+protosFrames S zero q = []
+protosFrames S (suc n) q = protoFrames S q ++ protosFrames S n (q + 1)
+
+unfoldable pub framesIn : Storage → List F
+framesIn S = protosFrames S (prototypesOf (S .table)) 0 ++ ends (prototypesOf (S .table)) ∷ []
+
+-- the bytes that the writer writes
+unfoldable pub imageIn : Storage → List ℕ
+imageIn S = written (framesIn S)
+
+-- ---- the test behind 6
+
+-- an image reads to a storage: it is accepted, and what it fills stands at the front of each slice
+pub record ReadsTo (s : List ℕ) (S : Storage) : Type 0 where
+  pub count : ℕ
+  pub accepted : judgeOf s ≡ Accepted count
+  pub table : take (length (contentsOf count (framesOf s) .table)) (S .table) ≡ contentsOf count (framesOf s) .table
+  pub code : take (length (contentsOf count (framesOf s) .code)) (S .code) ≡ contentsOf count (framesOf s) .code
+  pub kinds : take (length (contentsOf count (framesOf s) .kinds)) (S .kinds) ≡ contentsOf count (framesOf s) .kinds
+  pub words : take (length (contentsOf count (framesOf s) .words)) (S .words) ≡ contentsOf count (framesOf s) .words
+  pub texts : take (length (contentsOf count (framesOf s) .texts)) (S .texts) ≡ contentsOf count (framesOf s) .texts
+
+-- the same as a test
+unfoldable pub startsWith : List ℕ → List ℕ → Bool
+startsWith [] l = true
+startsWith (x ∷ xs) [] = false
+startsWith (x ∷ xs) (y ∷ l) = pick (eqb x y) (startsWith xs l) false
+
+unfoldable pub standsIn : Storage → Storage → Bool
+standsIn xs S =
+    pick (startsWith (xs .table) (S .table))
+    (pick (startsWith (xs .code) (S .code))
+    (pick (startsWith (xs .kinds) (S .kinds)) (pick (startsWith (xs .words) (S .words)) (startsWith (xs .texts) (S .texts)) false) false)
+    false)
+    false
+
+unfoldable pub backIn : Judged → List F → Storage → Bool
+backIn (Accepted n) fs S = standsIn (contentsOf n fs) S
+backIn (Refused k n) fs S = false
+
+-- what would be written reads back to this storage
+unfoldable pub readsBack : Storage → Bool
+readsBack S = backIn (judgeOf (imageIn S)) (framesOf (imageIn S)) S
+
+-- the length of the image, or 6
+unfoldable pub validOf : Storage → Validity
+validOf S = pick (readsBack S) (Bytes (length (imageIn S))) Six
