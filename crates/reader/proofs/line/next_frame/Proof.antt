@@ -1,0 +1,61 @@
+-- `reader::line::next_frame` meets its contract: a line ends at its LF, or lacks it at the end of the bytes. Assumes nothing.
+use borrow.Author.Needs.{needs}
+use native.Mathlib.Omega.{arith}
+use Prim.Native.Nat.{_+_, _≤_, _<_}
+use mathlib.Core.Path.{_≡_, sym, ap, _∙_}
+use lib.ListN.{length, drop}
+use Rattle.image.specs.Lines.{lineLen}
+use Rattle.image.specs.Frames.{shape}
+use Rattle.reader.proofs.LineLaws.{frames-cut, first-cut, frames-uncut, first-uncut}
+use Rattle.reader.proofs.line.next_frame.Statement.{statement}
+use Rattle.reader.proofs.line.next_frame.Tie as tie
+
+find-lf-requires : tie.Need-find-lf-requires
+find-lf-requires c κs = search needs
+
+returns : tie.Need-returns
+unfolding shape
+returns c =
+    let l = c .before .before .before .args .s .now in
+    let at = c .before .before .before .args .at in
+    let h : length l ≤ at + lineLen (drop at l) = omega (arith, c .before .find-lf .ensures) in
+    let f = first-uncut l at h (c .before .before .before .pre) in
+    record { here = sym (ap shape f); list = rw f (frames-uncut l at h (c .before .before .before .pre)); more = c .before .before .before .pre; within = omega arith }
+
+sub-frame-of : tie.Need-sub-frame-of
+sub-frame-of c = search needs
+
+part-frame-of-start : tie.Need-part-frame-of-start
+part-frame-of-start c = search needs
+
+part-frame-of-end : tie.Need-part-frame-of-end
+part-frame-of-end c = search needs
+
+frame-of-requires : tie.Need-frame-of-requires
+frame-of-requires c κs = search needs
+
+add-t5 : tie.Need-add-t5
+add-t5 c = search needs
+
+returns-2 : tie.Need-returns-2
+returns-2 c =
+    let l = c .before .before .before .before .before .args .s .now in
+    let at = c .before .before .before .before .before .args .at in
+    let e = c .before .before .before .find-lf .result in
+    let h : e ≡ at + lineLen (drop at l) = c .before .before .before .find-lf .ensures in
+    let k : e < length l = c .before .before .if1 .left in
+    let f = first-cut l at e h k in
+    record { here = c .frame-of .ensures ∙ ap shape (sym f); list = rw f (frames-cut l at e h k); more = omega arith; within = omega arith }
+
+pub next-frame-spec : {M : Type 1} → statement M
+next-frame-spec =
+    tie.close
+    (tie.spec
+    find-lf-requires
+    returns
+    sub-frame-of
+    part-frame-of-start
+    part-frame-of-end
+    frame-of-requires
+    add-t5
+    returns-2)

@@ -1,0 +1,52 @@
+-- What the code's own steps give: one line read, one frame put, all frames put. Assumes nothing.
+use Prim.Native.Nat.{ℕ, _+_, _≤_, _<_}
+use mathlib.Core.Path.{_≡_}
+use mathlib.Core.List.{List, _∷_}
+use lib.ListN.{length, drop}
+use lib.Seq.{sets}
+use Rattle.image.specs.Frames.{F, shape, framesOf, firstFrame}
+use Rattle.storage.specs.declared.Tops.{Tops}
+use Rattle.storage.specs.Layout.{entryOf, codesOf, kindsOf, wordsOf, textsOf, contentsOf, tableSize, codeSize, constantSize, textSize}
+use Rattle.reader.specs.declared.line.Next.{Next}
+
+-- the line at `at` was read: its frame, and the frames after it stand at r .next
+pub record Advance (s : List ℕ) (at : ℕ) (r : Next) : Type 0 where
+  pub here : r .frame ≡ shape (firstFrame (drop at s))
+  pub list : framesOf (drop at s) ≡ firstFrame (drop at s) ∷ framesOf (drop (r .next) s)
+  pub more : at < r .next
+  pub within : r .next ≤ length s
+
+-- no top can overflow by one frame more
+pub record Small (t : Tops) : Type 0 where
+  pub entries : t .entries ≤ 1048576
+  pub codes : t .codes ≤ 1048576
+  pub consts : t .consts ≤ 1048576
+  pub texts : t .texts ≤ 1048576
+
+-- one frame was put at the tops t; r is how far the slices are filled now
+pub record Put (t r : Tops) (f : F) (l l' c c' k k' w w' x x' : List ℕ) : Type 0 where
+  pub topEntries : r .entries ≡ t .entries + length (entryOf (t .consts) (t .codes) f)
+  pub topCodes : r .codes ≡ t .codes + length (codesOf f)
+  pub topConsts : r .consts ≡ t .consts + length (kindsOf f)
+  pub topTexts : r .texts ≡ t .texts + length (textsOf f)
+  pub table : l' ≡ sets l (t .entries) (entryOf (t .consts) (t .codes) f)
+  pub code : c' ≡ sets c (t .codes) (codesOf f)
+  pub kinds : k' ≡ sets k (t .consts) (kindsOf f)
+  pub words : w' ≡ sets w (t .consts) (wordsOf (t .texts) f)
+  pub texts : x' ≡ sets x (t .texts) (textsOf f)
+
+-- the published sizes suffice for what the frames append
+pub record Suffice (n : ℕ) (fs : List F) : Type 0 where
+  pub table : length (contentsOf n fs .table) ≤ tableSize
+  pub code : length (contentsOf n fs .code) ≤ codeSize
+  pub kinds : length (contentsOf n fs .kinds) ≤ constantSize
+  pub words : length (contentsOf n fs .words) ≤ constantSize
+  pub texts : length (contentsOf n fs .texts) ≤ textSize
+
+-- all of it was stored, from the front on
+pub record Filled (n : ℕ) (fs : List F) (l l' c c' k k' w w' x x' : List ℕ) : Type 0 where
+  pub table : l' ≡ sets l 0 (contentsOf n fs .table)
+  pub code : c' ≡ sets c 0 (contentsOf n fs .code)
+  pub kinds : k' ≡ sets k 0 (contentsOf n fs .kinds)
+  pub words : w' ≡ sets w 0 (contentsOf n fs .words)
+  pub texts : x' ≡ sets x 0 (contentsOf n fs .texts)

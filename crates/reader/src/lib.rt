@@ -1,0 +1,30 @@
+// Reads an image into lent storage in two passes: judged first, so that a refusal leaves everything untouched.
+mod fill;
+mod hex;
+mod judge;
+mod line;
+
+use image::Judged;
+ghost use Rattle.storage.specs.Layout.{storage};
+ghost use Rattle.reader.specs.Reading.{Read};
+
+pub fn read(
+    image: &[u8],
+    table: &mut [u64],
+    code: &mut [u64],
+    const_kinds: &mut [u8],
+    const_words: &mut [u64],
+    texts: &mut [u8],
+) -> Judged
+    ensures { λ r. ⌜ Read (now (image .entry)) r (storage (now (table .entry)) (now (code .entry)) (now («const_kinds» .entry)) (now («const_words» .entry)) (now (texts .entry))) (storage (now (table .exit)) (now (code .exit)) (now («const_kinds» .exit)) (now («const_words» .exit)) (now (texts .exit))) ⌝ }
+{
+    let enough = storage::is_long_enough(table, code, const_kinds, const_words, texts);
+    if !enough {
+        return Judged::Refused(5, 0);
+    }
+    let j = judge::judge(image);
+    if let Judged::Accepted(n) = j {
+        fill::fill_all(image, n, table, code, const_kinds, const_words, texts);
+    }
+    j
+}
