@@ -1,0 +1,101 @@
+-- `writer::put_prototype` meets its contract: the entry is read, and its line, its constants and its instructions are put one after the other. Assumes nothing.
+use borrow.Author.Needs.{needs}
+use Rattle.storage.specs.Layout.{Storage, storage}
+use Rattle.writer.proofs.FramePuts.{Entry, opens-room, consts-room, codes-room, proto-put}
+use Rattle.writer.proofs.put_prototype.Statement.{statement}
+use Rattle.writer.proofs.put_prototype.Tie as tie
+
+registers-requires : tie.Need-registers-requires
+registers-requires c κs = search needs
+
+cast-registers : tie.Need-cast-registers
+cast-registers c = search needs
+
+parameters-requires : tie.Need-parameters-requires
+parameters-requires c κs = search needs
+
+cast-parameters : tie.Need-cast-parameters
+cast-parameters c = search needs
+
+first-constant-requires : tie.Need-first-constant-requires
+first-constant-requires c κs = search needs
+
+constants-requires : tie.Need-constants-requires
+constants-requires c κs = search needs
+
+first-instruction-requires : tie.Need-first-instruction-requires
+first-instruction-requires c κs = search needs
+
+instructions-requires : tie.Need-instructions-requires
+instructions-requires c κs = search needs
+
+-- where the entry has been read
+abbrev start : tie.After-instructions → tie.Start
+start c = c .before .before .before .before .before .before .before .before .before .before .before .before
+
+entry :
+    (c : tie.After-instructions)
+    → Entry (start c .args .table .now) (start c .args .q) (c .before .before .before .before .before .registers .result)
+    (c .before .before .before .before .parameters .result) (c .before .before .before .first-constant .result)
+    (c .before .before .constants .result) (c .before .first-instruction .result) (c .instructions .result)
+entry c =
+    record {
+      registers = c .before .before .before .before .before .registers .ensures;
+      parameters = c .before .before .before .before .parameters .ensures;
+      first-constant = c .before .before .before .first-constant .ensures;
+      constants = c .before .before .constants .ensures;
+      first-instruction = c .before .first-instruction .ensures;
+      instructions = c .instructions .ensures;
+    }
+
+-- the lent storage
+abbrev lent : tie.Start → Storage
+lent s =
+    storage (s .args .table .now) (s .args .code .now) (s .args .const-kinds .now) (s .args .const-words .now) (s .args .texts .now)
+
+put-open-requires : tie.Need-put-open-requires
+put-open-requires c κs =
+    let d = c .before in
+    let s = start d in
+    opens-room (lent s) (entry d) (s .args .out .now) (s .args .at) (s .pre .1)
+
+put-constants-requires : tie.Need-put-constants-requires
+put-constants-requires c κs =
+    let d = c .before .before .before .before .before in
+    let s = start d in
+    consts-room (lent s) (entry d) (s .args .out .now) (s .args .at) (s .pre .1) (c .before .before .before .put-open .ensures)
+
+put-instructions-requires : tie.Need-put-instructions-requires
+put-instructions-requires c κs =
+    let d = c .before .before .before .before .before .before .before .before .before in
+    let s = start d in
+    codes-room (lent s) (entry d) (s .args .out .now) (s .args .at) (s .pre .1) (c .before .before .before .before .before .before .before .put-open .ensures)
+    (c .before .before .before .put-constants .ensures)
+
+same-length : tie.Need-same-length
+same-length c = search needs
+
+returns : tie.Need-returns
+returns c =
+    let d = c .before .before .before .before .before .before .before .before .before .before .before .before in
+    let s = start d in
+    proto-put (lent s) (entry d) (s .args .out .now) (s .args .at) (c .before .before .before .before .before .before .before .before .before .before .put-open .ensures)
+    (c .before .before .before .before .before .before .put-constants .ensures) (c .before .before .put-instructions .ensures)
+
+pub put-prototype-spec : {M : Type 1} → statement M
+put-prototype-spec =
+    tie.close
+    (tie.spec
+    registers-requires
+    cast-registers
+    parameters-requires
+    cast-parameters
+    first-constant-requires
+    constants-requires
+    first-instruction-requires
+    instructions-requires
+    put-open-requires
+    put-constants-requires
+    put-instructions-requires
+    same-length
+    returns)

@@ -1,0 +1,3 @@
+-- What writing an image answers, and what it leaves.
+pub mod Writing
+pub mod Putting

@@ -1,0 +1,27 @@
+-- Writing a storage back: the answer, and what the output holds. Assumes nothing.
+-- "Writer, checker and start give 5 for storage or state, then 6; the writer last gives 5 for an output shorter than the image. .. the writer its bytes, telling
+-- how many; all beyond is unchanged."
+use Prim.Native.Nat.{ℕ}
+use mathlib.Core.Path.{_≡_}
+use mathlib.Core.List.{List}
+use lib.ListN.{length}
+use lib.Dec.{leb}
+use Rattle.image.specs.Hex.{pick}
+use Rattle.storage.specs.Layout.{Storage, longEnough, laid}
+use Rattle.storage.specs.Stored.{imageIn, readsBack}
+use Rattle.writer.specs.declared.Wrote.{Wrote}
+use Rattle.writer.specs.declared.Wrote.the-variants.{Bytes, Refused}
+
+unfoldable pub writeOf : Storage → List ℕ → Wrote
+writeOf S out =
+    pick (longEnough S)
+    (pick (readsBack S) (pick (leb (length (imageIn S)) (length out)) (Bytes (length (imageIn S))) (Refused 5)) (Refused 6))
+    (Refused 5)
+
+unfoldable pub outOf : Wrote → Storage → List ℕ → List ℕ
+outOf (Bytes n) S out = laid (imageIn S) out
+outOf (Refused k) S out = out
+
+pub record Written (S : Storage) (r : Wrote) (out out' : List ℕ) : Type 0 where
+  pub answer : r ≡ writeOf S out
+  pub left : out' ≡ outOf r S out

@@ -1,0 +1,391 @@
+#!/usr/bin/env python3
+"""Makes the cases of crates/images and what must be answered, by a reader of the image format that was written from
+document 01 and shares nothing with the proved one.
+
+    python3 tools/images/cases.py        writes crates/images/stdin and crates/images/stdout
+
+Running it again writes the same bytes. The list's form stands at the head of crates/images/src/main.rt."""
+import os
+import random
+import re
+
+LONGEST = 65536
+ROOM = 65600  # the output that is lent
+SIZES = (133, 5041, 8448, 8448, 32768)  # table, code, kinds, words, texts
+CELL = (0x5A5A5A5A5A5A5A5A, 0x5A5A5A5A5A5A5A5A, 0x5A, 0x5A5A5A5A5A5A5A5A, 0x5A)  # what lies in a cell at first
+WIDE = (True, True, False, True, False)
+
+
+# ---- a reader of its own
+
+class Refused(Exception):
+    pass
+
+
+def constant(data):
+    """Kind and value of a constant's bytes after b0."""
+    if not data:
+        raise Refused(2)
+    tag, payload = data[0], data[1:]
+    if tag == 0 and payload == b'':
+        return 0, 0
+    if tag == 1 and payload in (b'\0', b'\1'):
+        return 1, payload[0]
+    if tag in (2, 3) and len(payload) == 8:
+        return tag, int.from_bytes(payload, 'big')
+    if tag == 4 and len(payload) <= 64:
+        return 4, payload
+    raise Refused(2)
+
+
+def take(protos, line):
+    """One complete line; True where it is e0."""
+    if not re.fullmatch(rb'(?:[0-9a-f][0-9a-f])+', line):
+        raise Refused(1)
+    data = bytes.fromhex(line.decode())
+    kind, rest = data[0], data[1:]
+    if kind == 0xA0:
+        if len(rest) != 2 or rest[0] == 0 or rest[1] > rest[0]:
+            raise Refused(2)
+        if len(protos) == 32:
+            raise Refused(3)
+        protos.append((rest[0], rest[1], [], []))
+    elif kind == 0xB0:
+        value = constant(rest)
+        if not protos or protos[-1][3]:
+            raise Refused(2)
+        if len(protos[-1][2]) == 256:
+            raise Refused(3)
+        protos[-1][2].append(value)
+    elif kind == 0xC0:
+        if len(rest) != 5 or not protos:
+            raise Refused(2)
+        if len(protos[-1][3]) == 4096:
+            raise Refused(3)
+        protos[-1][3].append(tuple(rest))
+    elif kind == 0xE0:
+        if rest != bytes([len(protos)]):
+            raise Refused(2)
+        return True
+    else:
+        raise Refused(2)
+    return False
+
+
+def read(image, lengths):
+    """(0, prototypes) or (the refusal's number, the line)."""
+    if any(n < size for n, size in zip(lengths, SIZES)):
+        return 5, 0, None
+    if len(image) > LONGEST:
+        return 3, 0, None
+    protos, rest, number = [], image, 0
+    while rest:
+        line, found, rest = rest.partition(b'\n')
+        if not found:
+            return 1, number, None
+        try:
+            ended = take(protos, line)
+        except Refused as why:
+            return why.args[0], number, None
+        number += 1
+        if ended:
+            return (4, number, None) if rest else (0, len(protos), protos)
+    return 4, number, None
+
+
+def packed(operation, flags, a, b, c):
+    return c | b << 8 | a << 16 | operation << 26 | (flags & 3) << 24 | (flags >> 2) << 34
+
+
+def contents(protos):
+    """What the five slices hold at their front."""
+    table, code, kinds, words, texts = [len(protos)], [], [], [], b''
+    for registers, parameters, constants, instructions in protos:
+        table += [registers, parameters, len(kinds), len(code)]
+        for kind, value in constants:
+            kinds.append(kind)
+            if kind == 4:
+                words.append(len(texts) * 65536 + len(value))
+                texts += value
+            else:
+                words.append(value)
+        code += [packed(*five) for five in instructions]
+    return table + [0, 0, len(kinds), len(code)], code, kinds, words, list(texts)
+
+
+def digest(cells, wide):
+    h = 0
+    for cell in cells:
+        for part in ((cell >> 32, cell & 0xFFFFFFFF) if wide else (cell,)):
+            h = (h * 65599 + part) % 0xFFFFFFFB
+    return h
+
+
+def answered(image, lengths):
+    number, place, protos = read(image, lengths)
+    fronts = contents(protos) if number == 0 else [[]] * 5
+    out = [number, place]
+    for front, size, cell, wide in zip(fronts, SIZES, CELL, WIDE):
+        assert len(front) <= size
+        out.append(digest(front + [cell] * (size + 1 - len(front)), wide))
+    for n in (max(len(image) - 1, 0), len(image)):
+        out += rewritten(image, number, n)
+    return ' '.join(str(x) for x in out) + ' \n'
+
+
+def rewritten(image, number, n):
+    """What is left in an output of n bytes: 5 for short storage; 6 where nothing was read, since no image fills the cells
+    as they lay there first; 5 where the image does not fit; else the image."""
+    text, answer = b'', [0, len(image)]
+    if number == 5:
+        answer = [5, 0]
+    elif number:
+        answer = [6, 0]
+    elif n < len(image):
+        answer = [5, 0]
+    else:
+        text = image
+    return answer + [digest(list(text) + [0x5A] * (ROOM - len(text)), False)]
+
+
+# ---- the cases
+
+CASES = []
+SAID = {'\n': ';', '\r': '!', '\0': '%', '\xff': '~'}
+
+
+def case(name, *pieces, storage='11111', wants=None, length=None):
+    """A piece is a text or (count, text). wants: the number and the place, where document 01 says them outright."""
+    pieces = [p if isinstance(p, tuple) else (1, p) for p in pieces if p]
+    image = b''.join(n * text.encode('latin-1') for n, text in pieces)
+    assert length in (None, len(image)), (name, len(image))
+    lengths = [size - 1 + int(digit) for size, digit in zip(SIZES, storage)]
+    if wants is not None:
+        assert read(image, lengths)[:2] == wants, (name, read(image, lengths)[:2], wants)
+    CASES.append((name, pieces, storage, answered(image, lengths)))
+
+
+A0, C0, NIL = 'a00100\n', 'c00000000000\n', 'b000\n'
+SESSION = 'a00100\nb0020000000000000007\nc00100000000\nc00c00000100\ne001\n'
+
+
+def lines(*texts):
+    return ''.join(t + '\n' for t in texts)
+
+
+def end(count):
+    return 'e0%02x\n' % count
+
+
+def string(n, byte='61'):
+    return 'b004' + byte * n + '\n'
+
+
+def accepted():
+    case('the session', SESSION, wants=(0, 1))
+    case('no prototype', 'e000\n', wants=(0, 0))
+    case('a prototype without instructions', A0, end(1), wants=(0, 1))
+    case('constants only, then the next prototype', A0, NIL, A0, C0, end(2), wants=(0, 2))
+    case('instructions without constants', A0, C0, C0, end(1), wants=(0, 1))
+    case('a prototype after instructions has constants again', A0, C0, 'a00201\n', NIL, C0, end(2), wants=(0, 2))
+    case('registers 255, parameters 255', 'a0ffff\n', end(1), wants=(0, 1))
+    case('parameters equal to the registers', 'a00101\n', end(1), wants=(0, 1))
+    case('every kind of constant', A0, NIL, 'b00100\n', 'b00101\n', 'b002ffffffffffffffff\n', 'b0028000000000000000\n',
+         'b0037ff8000000000001\n', 'b0038000000000000000\n', 'b00400ff0a\n', string(0), 'b004616263\n', end(1), wants=(0, 1))
+    case('a string after a string starts where it ends', A0, string(3), string(0), string(5, '62'), A0, string(2, '63'), end(2),
+         wants=(0, 2))
+    case('operation 255 and all bytes 255', A0, 'c0ffffffffff\n', end(1), wants=(0, 1))
+    case('every flag bit of an instruction', A0, *['c02a%02x010203\n' % (1 << i) for i in range(8)], end(1), wants=(0, 1))
+    case('each byte of an instruction by itself', A0, *['c0' + '00' * i + 'ff' + '00' * (4 - i) + '\n' for i in range(5)], end(1),
+         wants=(0, 1))
+
+
+def empty_and_end():
+    case('the empty input', wants=(4, 0))
+    case('no e0 after good lines', A0, C0, wants=(4, 2))
+    case('an LF alone', '\n', wants=(1, 0))
+    case('a byte after e0', SESSION, 'a', wants=(4, 5))
+    case('an LF after e0', SESSION, '\n', wants=(4, 5))
+    case('a zero byte after e0', SESSION, '\0', wants=(4, 5))
+    case('bad hex after e0', SESSION, 'xyz\n', wants=(4, 5))
+    case('a line that lacks its LF after e0', SESSION, 'e001', wants=(4, 5))
+    case('a second e0', SESSION, end(1), wants=(4, 5))
+    case('the image twice', SESSION, SESSION, wants=(4, 5))
+    case('a byte after e000', 'e000\n', ' ', wants=(4, 1))
+    case('e0 lacks its LF', SESSION[:-1], wants=(1, 4))
+    case('e000 lacks its LF', 'e000', wants=(1, 0))
+    case('the last line lacks its LF and is no e0', A0, C0[:-1], wants=(1, 1))
+    case('the last line lacks its LF and has an unknown kind', A0, 'd0', wants=(1, 1))
+    case('the last line lacks its LF and is too many', (32, A0), A0[:-1], wants=(1, 32))
+    case('one byte', 'a', wants=(1, 0))
+    case('one zero byte', '\0', wants=(1, 0))
+
+
+def hexadecimal():
+    for name, bad in (('an uppercase digit', 'A00100'), ('an uppercase digit in the second place', 'aC0100'), ('a G', 'ag0100'),
+                      ('the byte below 0', '/00100'), ('the byte above 9', ':00100'), ('the byte below a', '`00100'),
+                      ('the byte above f', 'g00100'), ('a blank', 'a0 100'), ('a blank in front', ' a00100'),
+                      ('a blank behind', 'a00100 '), ('odd digits', 'a0010'), ('one digit', 'a'), ('three digits', 'a00'),
+                      ('CR LF', 'a00100\r'), ('CR alone', '\r'), ('a zero byte', 'a0\x000100'), ('the byte 255', 'a0\xff0100'),
+                      ('an empty line', '')):
+        case(name + ' in line 0', bad + '\n', wants=(1, 0))
+        case(name + ' in line 2', A0, NIL, bad + '\n', C0, end(1), wants=(1, 2))
+        case(name + ' instead of e0', A0, bad + '\n', wants=(1, 1))
+    case('CR LF everywhere', SESSION.replace('\n', '\r\n'), wants=(1, 0))
+    case('an uppercase digit in the last pair', A0, 'b002000000000000000F\n', end(1), wants=(1, 1))
+    case('odd digits in the last line', A0, 'e0010\n', wants=(1, 1))
+    case('bad hex comes before an unknown kind', 'd0x0\n', wants=(1, 0))
+
+
+def fields():
+    for kind in ('a0', 'b0', 'c0', 'e0', '00', 'd0', 'd054', 'd1', 'f0', 'ff', '0a', '0b'):
+        case(kind + ' alone', kind + '\n', wants=(2, 0))
+        case(kind + ' alone in a prototype', A0, kind + '\n', wants=(2, 1))
+    case('a0 with one byte', 'a001\n', wants=(2, 0))
+    case('a0 with three bytes', 'a0010000\n', wants=(2, 0))
+    case('registers 0', 'a00000\n', wants=(2, 0))
+    case('registers 0, parameters 1', 'a00001\n', wants=(2, 0))
+    case('parameters above the registers', 'a00102\n', wants=(2, 0))
+    case('parameters 255, registers 254', 'a0feff\n', wants=(2, 0))
+    for name, bad in (('nil with a byte', 'b00000'), ('boolean without a byte', 'b001'), ('boolean with two bytes', 'b0010100'),
+                      ('boolean 2', 'b00102'), ('boolean 255', 'b001ff'), ('integer without bytes', 'b002'),
+                      ('integer of 7 bytes', 'b002' + '00' * 7), ('integer of 9 bytes', 'b002' + '00' * 9),
+                      ('integer of 1 byte', 'b00207'), ('float without bytes', 'b003'), ('float of 7 bytes', 'b003' + '00' * 7),
+                      ('float of 9 bytes', 'b003' + '00' * 9), ('string of 65 bytes', 'b004' + '61' * 65),
+                      ('string of 200 bytes', 'b004' + '61' * 200), ('tag 05', 'b00500'), ('tag 05 alone', 'b005'),
+                      ('tag 06', 'b006'), ('tag ff', 'b0ff'), ('tag 10', 'b010')):
+        case(name, A0, bad + '\n', end(1), wants=(2, 1))
+    case('string of 64 bytes', A0, string(64), end(1), wants=(0, 1))
+    case('string of 63 bytes', A0, string(63), end(1), wants=(0, 1))
+    for n in (0, 1, 2, 3, 4, 6, 7, 20):
+        case('c0 with %d bytes' % n, A0, 'c0' + '00' * n + '\n', end(1), wants=(2, 1))
+    case('e0 without a byte', A0, 'e0\n', wants=(2, 1))
+    case('e0 with two bytes', A0, 'e00001\n', wants=(2, 1))
+    case('e0 one too few', A0, A0, end(1), wants=(2, 2))
+    case('e0 one too many', A0, end(2), wants=(2, 1))
+    case('e001 without a prototype', 'e001\n', wants=(2, 0))
+    case('e0 count wrong, then a byte', A0, end(0), 'x', wants=(2, 1))
+
+
+def order():
+    case('b0 before any a0', NIL, A0, end(1), wants=(2, 0))
+    case('c0 before any a0', C0, A0, end(1), wants=(2, 0))
+    case('b0 after c0', A0, C0, NIL, end(1), wants=(2, 2))
+    case('a string after c0', A0, C0, string(1), end(1), wants=(2, 2))
+    case('b0 after c0 in the second prototype', A0, C0, A0, NIL, C0, NIL, end(2), wants=(2, 5))
+    case('a wrong constant before any a0', 'b006\n', wants=(2, 0))
+    case('a wrong instruction before any a0', 'c0\n', wants=(2, 0))
+
+
+def limits():
+    case('31 prototypes', (31, A0), end(31), wants=(0, 31))
+    case('32 prototypes', (32, A0), end(32), wants=(0, 32))
+    case('33 prototypes', (33, A0), end(33), wants=(3, 32))
+    case('the 33rd a0 has registers 0', (32, A0), 'a00000\n', end(32), wants=(2, 32))
+    case('the 33rd a0 has odd digits', (32, A0), 'a0010\n', end(32), wants=(1, 32))
+    case('the 33rd a0, then a bad line', (33, A0), 'x\n', wants=(3, 32))
+    case('255 constants', A0, (255, NIL), end(1), wants=(0, 1))
+    case('256 constants', A0, (256, NIL), C0, end(1), wants=(0, 1))
+    case('257 constants', A0, (257, NIL), end(1), wants=(3, 257))
+    case('the 257th constant is a string', A0, (256, NIL), string(64), end(1), wants=(3, 257))
+    case('the 257th constant has tag 06', A0, (256, NIL), 'b006\n', end(1), wants=(2, 257))
+    case('the 257th constant has 65 bytes of string', A0, (256, NIL), string(65), end(1), wants=(2, 257))
+    case('the 257th constant has odd digits', A0, (256, NIL), 'b0000\n', end(1), wants=(1, 257))
+    case('the 257th constant stands after an instruction', A0, (256, NIL), C0, NIL, end(1), wants=(2, 258))
+    case('constants start anew with each prototype', A0, (256, NIL), A0, (256, 'b00101\n'), end(2), wants=(0, 2))
+    case('4,095 instructions', A0, (4095, C0), end(1), wants=(0, 1))
+    case('4,096 instructions', A0, (4096, C0), end(1), wants=(0, 1))
+    case('4,097 instructions', A0, (4097, C0), end(1), wants=(3, 4097))
+    case('the 4,097th instruction is too short', A0, (4096, C0), 'c0000000\n', end(1), wants=(2, 4097))
+    case('the 4,097th instruction has an uppercase digit', A0, (4096, C0), 'c0000000000A\n', end(1), wants=(1, 4097))
+    case('a constant after 4,096 instructions', A0, (4096, C0), NIL, end(1), wants=(2, 4097))
+    case('instructions start anew with each prototype', A0, (4096, C0), A0, (900, C0), end(2), wants=(0, 2))
+    case('32 prototypes of 256 constants', *[p for i in range(32) for p in ('a0%02x01\n' % (i + 1), (256, 'b00101\n'))], end(32),
+         wants=(0, 32))
+    case('as much string as fits', A0, (256, string(64)), A0, (236, string(64, '62')), end(2), wants=(0, 2))
+    case('as many instructions as fit', A0, (4096, C0), A0, (943, 'c02c03040506\n'), end(2), wants=(0, 2))
+
+
+def image_length():
+    full = [A0, (4096, C0), A0, (2, NIL), (943, C0)]
+    case('65,536 bytes', *full, end(2), wants=(0, 2), length=65536)
+    case('65,535 bytes', A0, (4096, C0), A0, NIL, string(6), (942, C0), end(2), wants=(0, 2), length=65535)
+    case('65,536 bytes, of which the last is a byte after e0', A0, (4096, C0), A0, NIL, string(6), (942, C0), end(2), 'x',
+         wants=(4, 5043), length=65536)
+    case('65,537 bytes, of which the last is a byte after e0', *full, end(2), 'x', wants=(3, 0), length=65537)
+    case('65,537 bytes, of which line 0 is bad', 'X', *full, end(2), wants=(3, 0), length=65537)
+    case('65,536 bytes, no LF', (65536, 'a'), wants=(1, 0))
+    case('65,537 bytes, no LF', (65537, 'a'), wants=(3, 0))
+    case('65,536 LFs', (65536, '\n'), wants=(1, 0))
+    case('65,537 LFs', (65537, '\n'), wants=(3, 0))
+    case('65,535 bytes of one line', (65534, '0'), '\n', wants=(2, 0), length=65535)
+    case('65,536 bytes of one line, odd digits', (65535, '0'), '\n', wants=(1, 0), length=65536)
+    case('65,535 bytes of nil constants', A0, (13105, NIL), 'b0\n', wants=(3, 257), length=65535)
+
+
+def sizes():
+    for i, name in enumerate(('table', 'code', 'kinds', 'words', 'texts')):
+        short = ''.join('0' if j == i else '1' for j in range(5))
+        case('%s one cell short, a good image' % name, SESSION, storage=short, wants=(5, 0))
+        case('%s one cell longer, a good image' % name, SESSION, storage=short.replace('0', '2'), wants=(0, 1))
+    case('all short, the empty input', storage='00000', wants=(5, 0))
+    case('short comes before 65,537 bytes', (65537, 'a'), storage='10111', wants=(5, 0))
+    case('short comes before a bad line', A0, 'X\n', storage='11110', wants=(5, 0))
+    case('all longer, a good image', SESSION, storage='22222', wants=(0, 1))
+    case('all longer, a refused image', SESSION, 'x', storage='22222', wants=(4, 5))
+
+
+def some_line(rng):
+    kind = rng.randrange(8)
+    if kind == 0:
+        registers = rng.randrange(1, 256)
+        return 'a0%02x%02x' % (registers, rng.randrange(registers + 1))
+    if kind in (1, 2):
+        return rng.choice(['b000', 'b0010%d' % rng.randrange(2), 'b002%016x' % rng.getrandbits(64),
+                           'b003%016x' % rng.getrandbits(64), 'b004' + rng.randbytes(rng.randrange(20)).hex()])
+    return 'c0' + rng.randbytes(5).hex()
+
+
+def drawn():
+    rng = random.Random(20250101)
+    for i in range(120):
+        body, protos = [], 0
+        for _ in range(rng.randrange(1, 14)):
+            line = some_line(rng)
+            if line[:2] == 'b0' and (not protos or body[-1][:2] == 'c0') or line[:2] == 'c0' and not protos:
+                line = 'a0%02x00' % rng.randrange(1, 256)
+            protos += line[:2] == 'a0'
+            body.append(line)
+        good = lines(*body, 'e0%02x' % protos)
+        case('drawn %d' % i, good, wants=(0, protos))
+        for j in range(3):
+            at = rng.randrange(len(good))
+            to = rng.choice('0123456789abcdefABg \n\r\0')
+            cut = rng.choice([at, at + 1, at + 1, at + 2, at + rng.randrange(20)])
+            case('drawn %d, changed %d' % (i, j), good[:at] + to + good[cut:])
+
+
+def main():
+    accepted()
+    empty_and_end()
+    hexadecimal()
+    fields()
+    order()
+    limits()
+    image_length()
+    sizes()
+    drawn()
+    given, wanted = [], []
+    for name, pieces, storage, answer in CASES:
+        given.append('# %s\n' % name)
+        for count, text in pieces:
+            given.append('%05d %s\n' % (count, ''.join(SAID.get(c, c) for c in text)))
+        given.append('.%s\n' % storage)
+        wanted.append('# %s\n%s' % (name, answer))
+    folder = os.path.join(os.path.dirname(os.path.abspath(__file__)), '..', '..', 'crates', 'images')
+    for name, rows in (('stdin', given), ('stdout', wanted)):
+        with open(os.path.join(folder, name), 'w', encoding='ascii', newline='') as out:
+            out.write(''.join(rows))
+
+
+main()
