@@ -1,0 +1,7 @@
+-- The laws behind the decoder and the search, and what the checker's answer says.
+pub mod Bools
+pub mod Places
+pub mod Shapes
+pub mod Lowest
+pub mod Turns
+pub mod Exact

@@ -1,0 +1,126 @@
+-- From six tests to the rules at a shape, and from an operation to its shape. Assumes nothing.
+use Prim.Native.Nat.{ℕ, _+_, _≤_}
+use mathlib.Core.Path.{_≡_, refl, sym, ap, _∙_}
+use mathlib.Core.Bool.{Bool, true, false, false≢true}
+use mathlib.Core.List.{List, [], _∷_}
+use native.Mathlib.Omega.{arith}
+use borrow.Author.Tests.{eqb-true, ne-eqb, lt-leb, leb-true}
+use lib.Dec.{eqb, leb}
+use Rattle.image.specs.Hex.{pick}
+use Rattle.image.specs.Instruction.{operationOf, flagsOf, aOf, bOf, cOf}
+use Rattle.checker.specs.Operations.{Shape, unknown, shapeOf, shapeAt, nextOf}
+use Rattle.checker.specs.Rules.{carried, tidy, registersIn, constantsIn, prototypeIn, allInside, targetsIn, lowest, brokenOf}
+use Rattle.checker.specs.Decode.{operandsOf, decodeOf}
+use Rattle.checker.specs.Steps.{BytesOf, judged, brokenAs, decodeAs}
+use Rattle.checker.specs.declared.Limits.{Limits}
+use Rattle.checker.specs.declared.operands.Bytes.{Bytes}
+use Rattle.checker.specs.declared.Instruction.{Instruction}
+use Rattle.checker.specs.declared.Instruction.the-variants.{Bad}
+use Rattle.checker.proofs.Bools.{test-cases}
+
+-- ---- a shape's decoder
+
+pub bytes : (w : ℕ) (x : Bytes) → BytesOf w x → x ≡ record { flags = flagsOf w; a = aOf w; b = bOf w; c = cOf w }
+bytes w x h = rw (← h .flags, ← h .a, ← h .b, ← h .c)
+
+-- the instruction matters only where its places lie inside
+same-inside :
+    (k10 k11 k12 k13 k14 k15 : Bool) (i j : Instruction) → (k14 ≡ true → i ≡ j)
+    → judged (lowest k10 k11 k12 k13 k14 k15) i ≡ judged (lowest k10 k11 k12 k13 k14 k15) j
+unfolding judged lowest
+same-inside false k11 k12 k13 k14 k15 i j f = refl
+same-inside true false k12 k13 k14 k15 i j f = refl
+same-inside true true false k13 k14 k15 i j f = refl
+same-inside true true true false k14 k15 i j f = refl
+same-inside true true true true false k15 i j f = refl
+same-inside true true true true true false i j f = refl
+same-inside true true true true true true i j f = f refl
+
+-- six tests that are the rules at shape s decide as `decodeOf` does there
+module _ (s : Shape) (l : Limits) (p w : ℕ) where
+  pub shaped :
+      {r i j : Instruction} {k10 k11 k12 k13 k14 k15 : Bool} → r ≡ judged (lowest k10 k11 k12 k13 k14 k15) i
+      → k10 ≡ carried s w → k11 ≡ tidy s w → k12 ≡ registersIn s (l .registers) w → k13 ≡ constantsIn s (l .constants) w
+      → k14 ≡ allInside (l .instructions) (nextOf s p w) → k15 ≡ prototypeIn s (l .prototypes) w
+      → (allInside (l .instructions) (nextOf s p w) ≡ true → i ≡ j) → r ≡ decodeAs s l p w j
+  unfolding brokenAs
+  shaped {k10 = k10} {k11 = k11} {k12 = k12} {k13 = k13} {k14 = k14} {k15 = k15} e e10 e11 e12 e13 e14 e15 f =
+      rw (← e10, ← e11, ← e12, ← e13, ← e14, ← e15) (e ∙ same-inside k10 k11 k12 k13 k14 k15 _ _ (λ h. f (sym e14 ∙ h)))
+
+-- ---- an operation's arm: its number gives the shape, and the shape's decoder gives the answer
+
+module _ (l : Limits) (p w : ℕ) where
+  pub arm :
+      {r i : Instruction} {o : ℕ} (k : ℕ) (s : Shape) → o ≡ operationOf w → o ≡ k → shapeOf k ≡ s
+      → (operationOf w ≡ k → operandsOf s p w ≡ i) → r ≡ decodeAs s l p w i → r ≡ decodeOf l p w
+  unfolding decodeOf brokenOf targetsIn brokenAs judged
+  arm {i = i} k s eo ek es f e =
+      let z : operationOf w ≡ k = sym eo ∙ ek in
+      let t : shapeAt w ≡ s = ap shapeOf z ∙ es in
+      rw (t, f z) e
+
+-- ---- an operation that is not carried
+
+-- what a `match` on a number tells its default
+abbrev NoneOf : ℕ → List ℕ → Type 0 → Type 0
+NoneOf o [] A = A
+NoneOf o (k ∷ ks) A = NoneOf o ks (A × (o ≡ k → ⊥))
+
+abbrev member : ℕ → List ℕ → Bool
+member k [] = false
+member k (j ∷ ks) = pick (eqb k j) true (member k ks)
+
+none-of : (o : ℕ) (ks : List ℕ) (A : Type 0) → NoneOf o ks A → A × ((k : ℕ) → member k ks ≡ true → o ≡ k → ⊥)
+none-of o [] A r = (r, λ k h. absurd (false≢true h))
+none-of o (j ∷ ks) A r =
+    let g = none-of o ks (A × (o ≡ j → ⊥)) r in (
+      g .0 .0,
+      λ k h. test-cases (eqb k j) (λ t e. g .0 .1 (e ∙ eqb-true k j t)) (λ t. g .1 k (rw t at h)),
+    )
+
+abbrev operations : List ℕ
+operations =
+    0 ∷ 1 ∷ 2 ∷ 3 ∷ 10 ∷ 12 ∷ 14 ∷ 15 ∷ 16 ∷ 17 ∷ 18 ∷ 19 ∷ 27 ∷ 28 ∷ 29 ∷ 30 ∷ 31 ∷ 32 ∷ 33 ∷ 34 ∷ 35 ∷ 36 ∷ 37 ∷ 38 ∷ 40 ∷ 41 ∷ 42
+    ∷ 43 ∷ 44 ∷ []
+
+module _ (o : ℕ) (none : (k : ℕ) → member k operations ≡ true → o ≡ k → ⊥) where
+  over : (a : ℕ) → a ≤ o → member a operations ≡ true → a + 1 ≤ o
+  over a h m = let g = none a m in omega (arith, g)
+
+  low : 27 ≤ o → 39 ≤ o
+  low h =
+      over 38 (over 37 (over 36 (over 35 (over 34 (over 33 (over 32 (over 31 (over 30 (over 29 (over 28 (over 27 h refl) refl) refl) refl) refl)
+      refl) refl) refl) refl) refl) refl) refl
+
+  high : 40 ≤ o → 45 ≤ o
+  high h = over 44 (over 43 (over 42 (over 41 (over 40 h refl) refl) refl) refl) refl
+
+  unknown-shape : shapeOf o ≡ unknown
+  unfolding shapeOf
+  unknown-shape =
+      rw (
+        ne-eqb o 0 (none 0 refl),
+        ne-eqb o 1 (none 1 refl),
+        ne-eqb o 2 (none 2 refl),
+        ne-eqb o 3 (none 3 refl),
+        ne-eqb o 10 (none 10 refl),
+        ne-eqb o 12 (none 12 refl),
+        ne-eqb o 14 (none 14 refl),
+        ne-eqb o 15 (none 15 refl),
+        ne-eqb o 16 (none 16 refl),
+        ne-eqb o 17 (none 17 refl),
+        ne-eqb o 18 (none 18 refl),
+        ne-eqb o 19 (none 19 refl),
+      )
+      (test-cases (leb 27 o)
+      (λ t. let h : 39 ≤ o = low (leb-true 27 o t) in
+      rw (t, lt-leb o 29 (omega arith), lt-leb o 32 (omega arith), lt-leb o 38 (omega arith))
+      (test-cases (leb 40 o) (λ u. rw (u, lt-leb o 44 (high (leb-true 40 o u)))) (λ u. rw u)))
+      (λ t. rw t))
+
+module _ (l : Limits) (p w : ℕ) where
+  pub no-arm : {A : Type 0} {o : ℕ} → o ≡ operationOf w → NoneOf o operations A → Bad 10 ≡ decodeOf l p w
+  unfolding decodeOf brokenOf carried operandsOf lowest
+  no-arm {A} {o} e r =
+      let t : shapeAt w ≡ unknown = ap shapeOf (sym e) ∙ unknown-shape o (none-of o operations A r .1) in
+      rw t

@@ -1,0 +1,7 @@
+-- What the checker demands: document 01's section of that name. Read in this order; Steps is for the code alone.
+pub mod Operations
+pub mod Rules
+pub mod Decode
+pub mod Check
+pub mod Kept
+pub mod Steps

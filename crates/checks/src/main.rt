@@ -1,0 +1,236 @@
+// Replays outside cases of the checker: images, changes of the storage that they are read to, and how much of it is
+// lent, on standard input. For each case it writes the answer's number, the prototype and the instruction.
+// tools/checks/cases.py makes the list, and by a checker of its own what must be written.
+//
+// A line of the list is one of
+//   # words                     a case's name, written as it is
+//   a0.. b0.. c0.. e0..         a line of the case's image
+//   =t00012:00000000000000ff    cell 12 of the table, where the image is read, becomes ff (c code, k kinds, w words, x texts)
+//   .01211                      the storage is checked; each slice is one cell short (0), as published (1) or one longer (2)
+use checker::Checked;
+use image::Judged;
+ghost use Prim.Native.Nat.{_+_, _≤_};
+ghost use lib.ListN.{length};
+
+// ---- what is written
+
+fn print(x: u64) {
+    io::print_decimal(1, x);
+    io::write_all(1, b" ");
+}
+
+fn print_answer(r: Checked) {
+    match r {
+        Checked::Accepted => {
+            print(0);
+            print(0);
+            print(0);
+        }
+        Checked::Refused(n, q, i) => {
+            print(n as u64);
+            print(q as u64);
+            print(i as u64);
+        }
+    }
+    io::write_all(1, b"\n");
+}
+
+// ---- a line of the list
+
+// Digit i of a line.
+fn digit_at(line: &[u8], i: usize) -> usize
+    ensures { λ r. ⌜ r ≤ 15 ⌝ }
+{
+    (slices::byte_at(line, 0, i) % 16) as usize
+}
+
+// The five digits from the third on.
+fn cell_at(line: &[u8]) -> usize {
+    let thousands = digit_at(line, 2) * 10 + digit_at(line, 3);
+    let tens = digit_at(line, 4) * 10 + digit_at(line, 5);
+    thousands * 1000 + tens * 10 + digit_at(line, 6)
+}
+
+// A hexadecimal digit's value.
+fn hex(b: u8) -> u64
+    ensures { λ r. ⌜ r ≤ 15 ⌝ }
+{
+    let low = (b % 16) as u64;
+    if b < b'a' {
+        return low;
+    }
+    (low + 9) % 16
+}
+
+// The 16 hexadecimal digits from the ninth byte on.
+fn value_at(line: &[u8]) -> u64 {
+    let mut v: u64 = 0;
+    let mut i = 0;
+    while i < 16 {
+        let d = hex(slices::byte_at(line, 8, i));
+        v = (v % 0x1000_0000_0000_0000) * 16 + d;
+        i += 1;
+    }
+    v
+}
+
+// How many of the n cells of a slice are lent: two fewer, one fewer or all of them, as digit i of a line has it.
+fn lent(line: &[u8], i: usize, n: usize) -> usize
+    ensures { λ r. ⌜ r ≤ n ⌝ }
+{
+    let fewer = 2 - digit_at(line, i) % 3;
+    if n < fewer {
+        return n;
+    }
+    n - fewer
+}
+
+// Where the first byte b at or after `at` stands; the length where there is none.
+fn find(s: &[u8], at: usize, b: u8) -> usize
+    requires { ⌜ at ≤ length (now s) ⌝ }
+    ensures { λ r. ⌜ (at ≤ r) × (r ≤ length (now (s .entry))) ⌝ }
+{
+    let mut i = at;
+    while i < s.len() {
+        if s[i] == b {
+            return i;
+        }
+        i += 1;
+    }
+    i
+}
+
+// ---- a case
+
+// One changed cell.
+fn change(
+    line: &[u8],
+    table: &mut [u64],
+    code: &mut [u64],
+    const_kinds: &mut [u8],
+    const_words: &mut [u64],
+    texts: &mut [u8],
+) {
+    let at = cell_at(line);
+    let v = value_at(line);
+    let b = (v % 256) as u8;
+    match slices::byte_at(line, 0, 1) {
+        b't' => slices::put_word(table, 0, at, v),
+        b'c' => slices::put_word(code, 0, at, v),
+        b'k' => slices::put_byte(const_kinds, 0, at, b),
+        b'w' => slices::put_word(const_words, 0, at, v),
+        _ => slices::put_byte(texts, 0, at, b),
+    }
+}
+
+// The changes, a line each.
+fn change_all(
+    s: &[u8],
+    table: &mut [u64],
+    code: &mut [u64],
+    const_kinds: &mut [u8],
+    const_words: &mut [u64],
+    texts: &mut [u8],
+) {
+    let mut at = 0;
+    while at < s.len() {
+        let e = find(s, at, b'\n');
+        change(&s[at..e], table, code, const_kinds, const_words, texts);
+        at = e + 1;
+    }
+}
+
+// Checks as much of the storage as a line says.
+fn check(
+    line: &[u8],
+    table: &[u64],
+    code: &[u64],
+    const_kinds: &[u8],
+    const_words: &[u64],
+    texts: &[u8],
+) {
+    let a = lent(line, 1, table.len());
+    let b = lent(line, 2, code.len());
+    let c = lent(line, 3, const_kinds.len());
+    let d = lent(line, 4, const_words.len());
+    let e = lent(line, 5, texts.len());
+    let r = checker::check(
+        &table[..a],
+        &code[..b],
+        &const_kinds[..c],
+        &const_words[..d],
+        &texts[..e],
+    );
+    print_answer(r);
+}
+
+// A case: the lines of its image and of its changes, read into slices that are one cell longer than published.
+fn run(s: &[u8], line: &[u8]) {
+    let mut table = [0u64; 134];
+    let mut code = [0u64; 5042];
+    let mut const_kinds = [0u8; 8449];
+    let mut const_words = [0u64; 8449];
+    let mut texts = [0u8; 32769];
+    let n = find(s, 0, b'=');
+    let r = reader::read(
+        &s[..n],
+        &mut table,
+        &mut code,
+        &mut const_kinds,
+        &mut const_words,
+        &mut texts,
+    );
+    if let Judged::Refused(_, _) = r {
+        io::write_all(1, b"not read\n");
+        return;
+    }
+    change_all(
+        &s[n..],
+        &mut table,
+        &mut code,
+        &mut const_kinds,
+        &mut const_words,
+        &mut texts,
+    );
+    check(line, &table, &code, &const_kinds, &const_words, &texts);
+}
+
+// ---- the list
+
+fn echo(line: &[u8]) {
+    io::write_all(1, line);
+    io::write_all(1, b"\n");
+}
+
+// The line from `at` to e of a case that begins at `start`; where the case begins that the next line belongs to.
+fn play_line(s: &[u8], start: usize, at: usize, e: usize) -> usize
+    requires { ⌜ (start ≤ at) × (at ≤ e) × (e ≤ length (now s)) ⌝ }
+    ensures { λ r. ⌜ r ≤ e + 1 ⌝ }
+{
+    let kind = slices::byte_at(s, at, 0);
+    if kind == b'#' {
+        echo(&s[at..e]);
+        return e + 1;
+    }
+    if kind == b'.' {
+        run(&s[start..at], &s[at..e]);
+        return e + 1;
+    }
+    start
+}
+
+fn play(s: &[u8]) {
+    let mut at = 0;
+    let mut start = 0;
+    while at < s.len() {
+        let e = find(s, at, b'\n');
+        start = play_line(s, start, at, e);
+        at = e + 1;
+    }
+}
+
+fn main() {
+    let mut list = [0u8; 393216];
+    let n = io::read_full(0, &mut list);
+    play(&list[..n]);
+}

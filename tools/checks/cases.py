@@ -1,0 +1,511 @@
+#!/usr/bin/env python3
+"""Makes the cases of crates/checks and what must be answered. The answers are written here by hand; a checker of its own,
+written from document 01, has to agree with each.
+
+    python3 tools/checks/cases.py        writes crates/checks/stdin and crates/checks/stdout
+
+Running it again writes the same bytes. The list's form stands at the head of crates/checks/src/main.rt."""
+import os
+import re
+
+# ---- a checker of its own: document 01, "What the checker demands"
+
+OPERATIONS = {
+    0: 'Move', 1: 'LoadConstant', 2: 'LoadBool', 3: 'LoadNil', 10: 'Call', 12: 'Return', 14: 'Jump', 15: 'Test', 16: 'TestSet',
+    17: 'Closure', 18: 'NumericForPrep', 19: 'NumericForLoop', 27: 'Eq', 28: 'Less', 29: 'LessEq', 30: 'Not', 31: 'Minus', 32: 'BitNot',
+    33: 'Add', 34: 'Sub', 35: 'Mul', 36: 'Div', 37: 'IDiv', 38: 'Mod', 40: 'BitAnd', 41: 'BitOr', 42: 'BitXor', 43: 'ShiftLeft',
+    44: 'ShiftRight',
+}
+NUMBER = {name: number for number, name in OPERATIONS.items()}
+UNARY = ('Move', 'Not', 'Minus', 'BitNot')
+COMPARE = ('Eq', 'Less', 'LessEq')
+BINARY = ('Add', 'Sub', 'Mul', 'Div', 'IDiv', 'Mod', 'BitAnd', 'BitOr', 'BitXor', 'ShiftLeft', 'ShiftRight')
+YES_NO = {'LoadBool': 'bc', 'Test': 'b', 'TestSet': 'c', 'Eq': 'a', 'Less': 'a', 'LessEq': 'a'}
+UNUSED_C = UNARY + ('LoadNil', 'Return', 'Test', 'Closure')
+REGISTERS = dict({name: 'ab' for name in UNARY + ('TestSet',)}, LoadConstant='a', LoadBool='a', Test='a', Closure='a',
+                 **{name: 'a' for name in BINARY})
+
+
+def broken(registers, constants, count, prototypes, p, five):
+    """The numbers of the rules that an instruction breaks."""
+    operation, flags = five[:2]
+    byte = dict(zip('abc', five[2:]))
+    a, b, c = five[2:]
+    name = OPERATIONS.get(operation)
+    if name is None:
+        return {10}
+    out = set()
+    if name == 'Call' and 255 in (b, c) or name == 'Return' and b == 255 or name == 'Jump' and a != 255:
+        out.add(10)
+    two = name in COMPARE + BINARY
+    if flags & ~(3 if two else 0) or name in UNUSED_C and c or any(byte[x] > 1 for x in YES_NO.get(name, '')):
+        out.add(11)
+    named = [byte[x] for x in REGISTERS.get(name, '')]
+    for flag, at in ((1, b), (2, c)) if two else ():
+        if flags & flag:
+            if at >= constants:
+                out.add(13)
+        else:
+            named.append(at)
+    tops = {'LoadNil': [a + b], 'Return': [a + b], 'Call': [a + 1 + b, a + c], 'NumericForPrep': [a + 3], 'NumericForLoop': [a + 4]}
+    if any(r >= registers for r in named) or any(top > registers for top in tops.get(name, [])):
+        out.add(12)
+    if name == 'LoadConstant' and b * 256 + c >= constants:
+        out.add(13)
+    to = p + 1 + int.from_bytes(bytes([b, c]), 'big', signed=True)
+    places = {'Return': [], 'Jump': [to], 'NumericForPrep': [to], 'NumericForLoop': [p + 1, to]}.get(name, [p + 1])
+    if name in ('Test', 'TestSet') + COMPARE:
+        places = [p + 1, p + 2]
+    if name == 'LoadBool' and c:
+        places = [p + 2]
+    if any(not 0 <= place < count for place in places):
+        out.add(14)
+    if name == 'Closure' and b >= prototypes:
+        out.add(15)
+    return out
+
+
+def check(protos):
+    if not protos:
+        return 15, 0, 0
+    for q, (registers, _, constants, code) in enumerate(protos):
+        if not code:
+            return 14, q, 0
+        for p, five in enumerate(code):
+            numbers = broken(registers, len(constants), len(code), len(protos), p, five)
+            if numbers:
+                return min(numbers), q, p
+    return 0, 0, 0
+
+
+# ---- the storage: five slices, and whether an image reads to them
+
+SIZES = (133, 5041, 8448, 8448, 32768)
+
+
+def parse(image):
+    protos = []
+    for line in image.splitlines():
+        data = bytes.fromhex(line)
+        kind, rest = data[0], data[1:]
+        if kind == 0xA0:
+            protos.append((rest[0], rest[1], [], []))
+        elif kind == 0xB0:
+            protos[-1][2].append(bytes(rest))
+        elif kind == 0xC0:
+            protos[-1][3].append(tuple(rest))
+        else:
+            assert kind == 0xE0 and rest[0] == len(protos)
+    return protos
+
+
+def store(protos):
+    table, code, kinds, words, texts = [len(protos)], [], [], [], []
+    for registers, parameters, constants, instructions in protos:
+        table += [registers, parameters, len(kinds), len(code)]
+        for data in constants:
+            kinds.append(data[0])
+            words.append(len(texts) * 65536 + len(data) - 1 if data[0] == 4 else int.from_bytes(data[1:], 'big'))
+            texts += data[1:] if data[0] == 4 else []
+        for operation, flags, a, b, c in instructions:
+            code.append(c + b * 2**8 + a * 2**16 + (operation * 4 + flags % 4) * 2**24 + flags // 4 * 2**34)
+    table += [0, 0, len(kinds), len(code)]
+    slices = [table, code, kinds, words, texts]
+    return [s + [0] * (size + 1 - len(s)) for s, size in zip(slices, SIZES)]
+
+
+def say(slices):
+    """The image that a storage says, or None."""
+    table, code, kinds, words, texts = slices
+    lines = []
+    try:
+        for q in range(table[0]):
+            registers, parameters, constant, instruction, _, _, constants, instructions = table[1 + 4 * q:9 + 4 * q]
+            if not 1 <= registers <= 255 or parameters > registers:
+                return None
+            if not 0 <= constants - constant <= 256 or not 0 <= instructions - instruction <= 4096:
+                return None
+            lines.append(bytes([0xA0, registers, parameters]))
+            for i in range(constant, constants):
+                if kinds[i] == 4:
+                    start, length = divmod(words[i], 65536)
+                    lines.append(bytes([0xB0, 4] + texts[start:start + length]))
+                else:
+                    lines.append(bytes([0xB0, kinds[i]]) + words[i].to_bytes((0, 1, 8, 8)[kinds[i]], 'big'))
+            for i in range(instruction, instructions):
+                w = code[i]
+                if w >= 2**40:
+                    return None
+                lines.append(bytes([0xC0, w >> 26 & 255, w >> 24 & 3 | w >> 34 << 2, w >> 16 & 255, w >> 8 & 255, w & 255]))
+        lines.append(bytes([0xE0, table[0]]))
+    except (IndexError, ValueError, OverflowError):
+        return None
+    return ''.join(line.hex() + '\n' for line in lines)
+
+
+def read_back(slices):
+    """Prototypes of a storage, or None where no image reads to it."""
+    image = say(slices)
+    if image is None or len(image) > 65536 or slices[0][0] > 32:
+        return None
+    protos = parse(image)
+    for line in image.splitlines():
+        if not re.fullmatch('a0.*|b0(00|010[01]|0[23].{16}|04(..){0,64})|c0.{10}|e0..', line):
+            return None
+    used = [1 + 4 * (len(protos) + 1), sum(len(p[3]) for p in protos), sum(len(p[2]) for p in protos)]
+    used += [used[2], sum(len(d) - 1 for p in protos for d in p[2] if d[0] == 4)]
+    return protos if all(s[:n] == t[:n] for s, t, n in zip(slices, store(protos), used)) else None
+
+
+def answer(slices, lengths):
+    if any(n < size for n, size in zip(lengths, SIZES)):
+        return 5, 0, 0
+    protos = read_back(slices)
+    return (6, 0, 0) if protos is None else check(protos)
+
+
+# ---- the list
+
+LIST, ANSWERS, NAMES = [], [], set()
+
+
+def case(name, wants, protos, changes=(), lend='11111'):
+    """protos: (registers, constants, instructions, parameters = 0). wants: number, prototype, instruction, by hand."""
+    assert name not in NAMES, name
+    NAMES.add(name)
+    lines = []
+    for registers, constants, code, *parameters in protos:
+        lines.append(bytes([0xA0, registers, *(parameters or [0])]))
+        lines += [bytes([0xB0]) + constant for constant in constants]
+        lines += [bytes([0xC0, *five]) for five in code]
+    lines.append(bytes([0xE0, len(protos)]))
+    image = ''.join(line.hex() + '\n' for line in lines)
+    assert len(image) <= 65536, name
+    slices = store(parse(image))
+    for kind, cell, value in changes:
+        slices['tckwx'.index(kind)][cell] = value
+    found = answer(slices, [size - 1 + int(digit) for size, digit in zip(SIZES, lend)])
+    assert found == wants, (name, found, wants)
+    LIST.append('# ' + name + '\n' + image + ''.join('=%s%05d:%016x\n' % change for change in changes) + '.' + lend + '\n')
+    ANSWERS.append('# %s\n%d %d %d \n' % (name, *wants))
+
+
+NIL = b'\0'
+RETURN = (12, 0, 0, 0, 0)
+
+
+def single(what, wants, name, flags, a, b, c, p=0, n=2, registers=4, constants=3):
+    """One instruction at place p of n in a lone prototype, all others Return of nothing."""
+    code = [RETURN] * n
+    code[p] = (NUMBER[name], flags, a, b, c)
+    case('%s: %s' % (name, what), (wants, 0, p if wants else 0), [(registers, [NIL] * constants, code)])
+
+
+def offset(n):
+    return n >> 8 & 255, n & 255
+
+
+def flags_and_unused(name, a, b, c, n, unused):
+    single('flag 1', 11, name, 1, a, b, c, n=n)
+    single('flag 2', 11, name, 2, a, b, c, n=n)
+    single('flag 128', 11, name, 128, a, b, c, n=n)
+    if unused:
+        single('c is 1', 11, name, 0, a, b, 1, n=n)
+        single('c is 255', 11, name, 0, a, b, 255, n=n)
+
+
+def unary():
+    for name in UNARY:
+        single('the last register twice', 0, name, 0, 3, 3, 0)
+        single('dest at R', 12, name, 0, 4, 0, 0)
+        single('source at R', 12, name, 0, 0, 4, 0)
+        single('nothing after it', 14, name, 0, 0, 0, 0, n=1)
+        single('last of three', 14, name, 0, 0, 0, 0, p=2, n=3)
+        single('11 and 12', 11, name, 1, 4, 0, 0)
+        single('12 and 14', 12, name, 0, 4, 0, 0, n=1)
+        flags_and_unused(name, 0, 0, 0, 2, True)
+
+
+def loads():
+    name = 'LoadConstant'
+    single('the last register and constant', 0, name, 0, 3, 0, 2)
+    single('dest at R', 12, name, 0, 4, 0, 0)
+    single('constant at K', 13, name, 0, 0, 0, 3)
+    single('constant 255 of 256', 0, name, 0, 0, 0, 255, constants=256)
+    single('constant 256 of 256', 13, name, 0, 0, 1, 0, constants=256)
+    single('constant 65535', 13, name, 0, 0, 255, 255, constants=256)
+    single('no constants', 13, name, 0, 0, 0, 0, constants=0)
+    single('nothing after it', 14, name, 0, 0, 0, 0, n=1)
+    single('12 and 13', 12, name, 0, 4, 0, 3)
+    single('13 and 14', 13, name, 0, 0, 0, 3, n=1)
+    flags_and_unused(name, 0, 0, 0, 2, False)
+    name = 'LoadBool'
+    single('false, no skip', 0, name, 0, 3, 0, 0)
+    single('true, no skip', 0, name, 0, 3, 1, 0)
+    single('skip to the last', 0, name, 0, 3, 0, 1, n=3)
+    single('skip one too far', 14, name, 0, 3, 0, 1, n=2)
+    single('skip two too far', 14, name, 0, 3, 0, 1, n=1)
+    single('nothing after it', 14, name, 0, 3, 0, 0, n=1)
+    single('dest at R', 12, name, 0, 4, 0, 0)
+    single('value 2', 11, name, 0, 0, 2, 0)
+    single('skip 2', 11, name, 0, 0, 0, 2, n=3)
+    single('skip 2 with nothing after it', 11, name, 0, 0, 0, 2, n=1)
+    flags_and_unused(name, 0, 0, 0, 2, False)
+    name = 'LoadNil'
+    single('all of R', 0, name, 0, 0, 4, 0)
+    single('one more than R', 12, name, 0, 0, 5, 0)
+    single('the last one', 0, name, 0, 3, 1, 0)
+    single('two from the last', 12, name, 0, 3, 2, 0)
+    single('none at R', 0, name, 0, 4, 0, 0)
+    single('none past R', 12, name, 0, 5, 0, 0)
+    single('one at R', 12, name, 0, 4, 1, 0)
+    single('255 of 255', 0, name, 0, 0, 255, 0, registers=255)
+    single('255 of 254', 12, name, 0, 0, 255, 0, registers=254)
+    single('255 from 1', 12, name, 0, 1, 255, 0, registers=255)
+    single('none at 255', 0, name, 0, 255, 0, 0, registers=255)
+    single('nothing after it', 14, name, 0, 0, 1, 0, n=1)
+    flags_and_unused(name, 0, 1, 0, 2, True)
+
+
+def calls():
+    name = 'Call'
+    single('arguments and returns fill R', 0, name, 0, 0, 3, 4)
+    single('one argument too many', 12, name, 0, 0, 4, 0)
+    single('one return too many', 12, name, 0, 0, 0, 5)
+    single('the last register, one return', 0, name, 0, 3, 0, 1)
+    single('the last register, one argument', 12, name, 0, 3, 1, 0)
+    single('the last register, two returns', 12, name, 0, 3, 0, 2)
+    single('function at R, nothing else', 12, name, 0, 4, 0, 0)
+    single('254 arguments of 255 registers', 0, name, 0, 0, 254, 0, registers=255)
+    single('254 arguments of 254 registers', 12, name, 0, 0, 254, 0, registers=254)
+    single('254 returns of 254 registers', 0, name, 0, 0, 0, 254, registers=254)
+    single('254 returns of 253 registers', 12, name, 0, 0, 0, 254, registers=253)
+    single('255 arguments', 10, name, 0, 0, 255, 0, registers=255)
+    single('255 returns', 10, name, 0, 0, 0, 255, registers=255)
+    single('255 arguments, flag and range', 10, name, 1, 255, 255, 0)
+    single('nothing after it', 14, name, 0, 0, 0, 0, n=1)
+    flags_and_unused(name, 0, 0, 0, 2, False)
+    name = 'Return'
+    single('all of R', 0, name, 0, 0, 4, 0)
+    single('one more than R', 12, name, 0, 0, 5, 0)
+    single('the last one', 0, name, 0, 3, 1, 0)
+    single('none at R', 0, name, 0, 4, 0, 0)
+    single('none past R', 12, name, 0, 5, 0, 0)
+    single('none at 255', 0, name, 0, 255, 0, 0, registers=255)
+    single('254 of 254', 0, name, 0, 0, 254, 0, registers=254)
+    single('254 of 253', 12, name, 0, 0, 254, 0, registers=253)
+    single('count 255', 10, name, 0, 0, 255, 0, registers=255)
+    single('10 and 11', 10, name, 1, 0, 255, 1)
+    single('nothing after it', 0, name, 0, 0, 0, 0, n=1)
+    flags_and_unused(name, 0, 0, 0, 1, True)
+
+
+def jumps():
+    name = 'Jump'
+    single('to the next', 0, name, 0, 255, 0, 0)
+    single('to the last', 0, name, 0, 255, *offset(1), n=3)
+    single('one past the last', 14, name, 0, 255, *offset(2), n=3)
+    single('to itself', 0, name, 0, 255, *offset(-1), n=1)
+    single('to the first', 0, name, 0, 255, *offset(-3), p=2, n=3)
+    single('one before the first', 14, name, 0, 255, *offset(-4), p=2, n=3)
+    single('nothing after it, back', 0, name, 0, 255, *offset(-2), p=1, n=2)
+    single('nothing after it, on', 14, name, 0, 255, 0, 0, n=1)
+    single('32767', 14, name, 0, 255, *offset(32767), n=3)
+    single('-32768', 14, name, 0, 255, *offset(-32768), p=2, n=3)
+    single('298 to the last of 300', 0, name, 0, 255, *offset(298), n=300)
+    single('299 of 300', 14, name, 0, 255, *offset(299), n=300)
+    single('-300 from the last of 300', 0, name, 0, 255, *offset(-300), p=299, n=300)
+    single('-301 from the last of 300', 14, name, 0, 255, *offset(-301), p=299, n=300)
+    single('close 254', 10, name, 0, 254, 0, 0)
+    single('close 0', 10, name, 0, 0, 0, 0)
+    single('10 and 14', 10, name, 0, 0, *offset(2))
+    single('11 and 14', 11, name, 4, 255, *offset(2))
+    flags_and_unused(name, 255, 0, 0, 2, False)
+    name = 'NumericForPrep'
+    single('base + 2 is the last register', 0, name, 0, 1, 0, 0)
+    single('base + 2 at R', 12, name, 0, 2, 0, 0)
+    single('base 252 of 255', 0, name, 0, 252, 0, 0, registers=255)
+    single('base 253 of 255', 12, name, 0, 253, 0, 0, registers=255)
+    single('base 255', 12, name, 0, 255, 0, 0, registers=255)
+    single('to the last', 0, name, 0, 0, *offset(1), n=3)
+    single('one past the last', 14, name, 0, 0, *offset(2), n=3)
+    single('nothing after it, back', 0, name, 0, 0, *offset(-2), p=1, n=2)
+    single('one before the first', 14, name, 0, 0, *offset(-3), p=1, n=2)
+    single('-32768', 14, name, 0, 0, *offset(-32768))
+    single('12 and 14', 12, name, 0, 2, *offset(2))
+    flags_and_unused(name, 0, 0, 0, 2, False)
+    name = 'NumericForLoop'
+    single('base + 3 is the last register', 0, name, 0, 0, 0, 0)
+    single('base + 3 at R', 12, name, 0, 1, 0, 0)
+    single('base 251 of 255', 0, name, 0, 251, 0, 0, registers=255)
+    single('base 252 of 255', 12, name, 0, 252, 0, 0, registers=255)
+    single('to the last', 0, name, 0, 0, *offset(1), n=3)
+    single('one past the last', 14, name, 0, 0, *offset(2), n=3)
+    single('to the first', 0, name, 0, 0, *offset(-2), p=1, n=3)
+    single('one before the first', 14, name, 0, 0, *offset(-3), p=1, n=3)
+    single('nothing after it, back', 14, name, 0, 0, *offset(-2), p=1, n=2)
+    single('-32768', 14, name, 0, 0, *offset(-32768))
+    flags_and_unused(name, 0, 0, 0, 2, False)
+
+
+def tests():
+    for name, b in (('Test', 0), ('TestSet', 3)):
+        single('the last register', 0, name, 0, 3, b, 0, n=3)
+        single('register a at R', 12, name, 0, 4, b, 0, n=3)
+        single('nothing two after it', 14, name, 0, 0, b, 0, n=2)
+        single('nothing after it', 14, name, 0, 0, b, 0, n=1)
+        single('12 and 14', 12, name, 0, 4, b, 0, n=2)
+        flags_and_unused(name, 0, 0, 0, 3, name == 'Test')
+    single('is_true 1', 0, 'Test', 0, 0, 1, 0, n=3)
+    single('is_true 2', 11, 'Test', 0, 0, 2, 0, n=3)
+    single('is_true 1', 0, 'TestSet', 0, 0, 0, 1, n=3)
+    single('is_true 2', 11, 'TestSet', 0, 0, 0, 2, n=3)
+    single('register b at R', 12, 'TestSet', 0, 0, 4, 0, n=3)
+
+
+def sources(name, a, n):
+    """The two sources of a comparison or a binary operation that has nothing else to break."""
+    single('registers, the last two', 0, name, 0, a, 3, 3, n=n)
+    single('left at R', 12, name, 0, a, 4, 0, n=n)
+    single('right at R', 12, name, 0, a, 0, 4, n=n)
+    single('left the last constant', 0, name, 1, a, 2, 3, n=n)
+    single('left at K', 13, name, 1, a, 3, 0, n=n)
+    single('left a constant, right at R', 12, name, 1, a, 2, 4, n=n)
+    single('right the last constant', 0, name, 2, a, 3, 2, n=n)
+    single('right at K', 13, name, 2, a, 0, 3, n=n)
+    single('right a constant, left at R', 12, name, 2, a, 4, 2, n=n)
+    single('both the last constants', 0, name, 3, a, 2, 2, n=n)
+    single('both constants, left at K', 13, name, 3, a, 3, 2, n=n)
+    single('both constants, right at K', 13, name, 3, a, 2, 3, n=n)
+    single('left at K, right at R', 12, name, 1, a, 3, 4, n=n)
+    single('left at R, right at K', 12, name, 2, a, 4, 3, n=n)
+    single('13 and 14', 13, name, 3, a, 3, 3, n=1)
+    single('flag 4', 11, name, 4, a, 0, 0, n=n)
+    single('flag 131', 11, name, 131, a, 0, 0, n=n)
+    single('nothing after it', 14, name, 0, a, 0, 0, n=1)
+
+
+def binaries():
+    for name in COMPARE:
+        sources(name, 0, 3)
+        single('skip_if 1', 0, name, 0, 1, 0, 0, n=3)
+        single('skip_if 2', 11, name, 0, 2, 0, 0, n=3)
+        single('nothing two after it', 14, name, 0, 0, 0, 0, n=2)
+    for name in BINARY:
+        sources(name, 3, 2)
+        single('dest at R', 12, name, 0, 4, 0, 0)
+        single('dest at R, constants', 12, name, 3, 4, 0, 0)
+
+
+def closures():
+    code = [(NUMBER['Closure'], 0, 3, 1, 0), RETURN]
+    other = (1, [], [RETURN])
+    case('Closure: the last prototype and register', (0, 0, 0), [(4, [], code), other])
+    case('Closure: itself', (0, 0, 0), [(4, [], [(17, 0, 0, 0, 0), RETURN])])
+    case('Closure: one past the last', (15, 0, 0), [(4, [], [(17, 0, 0, 2, 0), RETURN]), other])
+    case('Closure: 31 of 32', (0, 0, 0), [(4, [], [(17, 0, 0, 31, 0), RETURN])] + [other] * 31)
+    case('Closure: 32 of 32', (15, 0, 0), [(4, [], [(17, 0, 0, 32, 0), RETURN])] + [other] * 31)
+    case('Closure: 255', (15, 31, 0), [other] * 31 + [(4, [], [(17, 0, 0, 255, 0), RETURN])])
+    single('dest at R', 12, 'Closure', 0, 4, 0, 0)
+    single('12 and 15', 12, 'Closure', 0, 4, 1, 0)
+    single('14 and 15', 14, 'Closure', 0, 0, 1, 0, n=1)
+    single('nothing after it', 14, 'Closure', 0, 0, 0, 0, n=1)
+    flags_and_unused('Closure', 0, 0, 0, 2, True)
+
+
+def not_carried():
+    for operation in range(256):
+        if operation not in OPERATIONS:
+            case('operation %d is not carried' % operation, (10, 0, 0), [(4, [], [(operation, 0, 0, 0, 0), RETURN])])
+    case('an operation that is not carried breaks 10 whatever else', (10, 0, 0), [(4, [], [(39, 255, 255, 255, 255)])])
+
+
+def searches():
+    bad = (39, 0, 0, 0, 0)
+    good = (4, [NIL], [RETURN] * 8)
+    case('the session of document 01', (0, 0, 0), [(1, [bytes([2]) + (7).to_bytes(8, 'big')], [(1, 0, 0, 0, 0), (12, 0, 0, 1, 0)])])
+    loop = [(1, 0, 0, 0, 0), (1, 0, 1, 0, 1), (1, 0, 2, 0, 0), (18, 0, 0, 0, 0), (19, 0, 0, 255, 255), RETURN]
+    case('the loop of W13', (0, 0, 0), [(4, [bytes([2]) + n.to_bytes(8, 'big') for n in (1, 3)], loop)])
+    case('no prototype', (15, 0, 0), [])
+    case('one prototype without instructions', (14, 0, 0), [(1, [NIL], [])])
+    case('the third of four has no instructions', (14, 2, 0), [good, good, (1, [], []), good])
+    case('the last has no instructions', (14, 3, 0), [good, good, good, (1, [], [])])
+    case('prototype 3, instruction 7', (10, 3, 7), [good, good, good, (4, [], [RETURN] * 7 + [bad, RETURN]), good])
+    case('a prototype that nothing calls', (12, 1, 0), [good, (1, [], [(0, 0, 0, 1, 0), RETURN])])
+    case('an instruction that nothing reaches', (10, 0, 1), [(1, [], [RETURN, bad])])
+    case('the first of two in one prototype', (14, 0, 1), [(4, [], [RETURN, (14, 0, 255, 127, 255), bad])])
+    case('prototype 0 before prototype 1', (15, 0, 5), [(4, [], [RETURN] * 5 + [(17, 0, 0, 9, 0), RETURN]), (4, [], [bad])])
+    case('a bad instruction before an empty prototype', (10, 0, 7), [(4, [], [RETURN] * 7 + [bad]), (1, [], [])])
+    case('an empty prototype before a bad instruction', (14, 0, 0), [(1, [], []), (4, [], [bad])])
+    case('registers are those of its own prototype', (12, 1, 0), [(4, [], [(0, 0, 3, 3, 0), RETURN]), (3, [], [(0, 0, 3, 0, 0), RETURN])])
+    case('constants are those of its own prototype', (13, 1, 0),
+         [(1, [NIL] * 3, [(1, 0, 0, 0, 2), RETURN]), (1, [NIL] * 2, [(1, 0, 0, 0, 2), RETURN])])
+    case('instructions are those of its own prototype', (14, 1, 0),
+         [(1, [], [(14, 0, 255, 0, 1), RETURN, RETURN]), (1, [], [(14, 0, 255, 0, 1), RETURN])])
+    case('parameters do not matter', (0, 0, 0), [(4, [], [(0, 0, 3, 3, 0), RETURN], 4)])
+    case('every kind of constant', (0, 0, 0),
+         [(1, [NIL, b'\1\1', b'\2' + b'\xff' * 8, b'\3\x7f\xf8' + b'\0' * 6, b'\4', b'\4abc'], [(1, 0, 0, 0, 5), RETURN])])
+    far = [(14, 0, 255, *offset(4094))] + [RETURN] * 4094
+    case('4,096 instructions, from the first to the last and back', (0, 0, 0), [(1, [], far + [(14, 0, 255, *offset(-4096))])])
+    case('4,096 instructions, the last is bad', (14, 0, 4095), [(1, [], far + [(14, 0, 255, *offset(-4097))])])
+
+
+def storages():
+    session = [(1, [bytes([2]) + (7).to_bytes(8, 'big')], [(1, 0, 0, 0, 0), (12, 0, 0, 1, 0)])]
+    bad = [(4, [], [(39, 0, 0, 0, 0)])]
+    for i, what in enumerate(('table', 'code', 'kinds', 'words', 'texts')):
+        case('5: the %s is one cell short' % what, (5, 0, 0), session, lend='1' * i + '0' + '1' * (4 - i))
+        case('the %s is one cell longer' % what, (0, 0, 0), session, lend='1' * i + '2' + '1' * (4 - i))
+    case('5 before 6', (5, 0, 0), session, [('t', 0, 2)], lend='10111')
+    case('5 before 10', (5, 0, 0), bad, lend='11110')
+    case('6 before 10', (6, 0, 0), bad, [('t', 1, 0)])
+    case('6 before 15', (6, 0, 0), [], [('t', 1, 1)])
+    case('6: two prototypes are told of one', (6, 0, 0), session, [('t', 0, 2)])
+    case('6: no prototype is told of one', (6, 0, 0), session, [('t', 0, 0)])
+    case('6: 33 prototypes', (6, 0, 0), session, [('t', 0, 33)])
+    case('6: 2^64 - 1 prototypes', (6, 0, 0), session, [('t', 0, 2**64 - 1)])
+    case('6: no registers', (6, 0, 0), session, [('t', 1, 0)])
+    case('6: 256 registers', (6, 0, 0), session, [('t', 1, 256)])
+    case('255 registers', (0, 0, 0), session, [('t', 1, 255)])
+    case('6: more parameters than registers', (6, 0, 0), session, [('t', 2, 2)])
+    case('as many parameters as registers', (0, 0, 0), session, [('t', 2, 1)])
+    case('6: the first constant is not the first', (6, 0, 0), session, [('t', 3, 1)])
+    case('6: the first instruction is not the first', (6, 0, 0), session, [('t', 4, 1)])
+    case('6: the closing entry has registers', (6, 0, 0), session, [('t', 5, 1)])
+    case('6: the closing entry has parameters', (6, 0, 0), session, [('t', 6, 1)])
+    case('one constant more', (0, 0, 0), session, [('t', 7, 2)])
+    case('6: 257 constants', (6, 0, 0), session, [('t', 7, 257)])
+    case('256 constants', (0, 0, 0), session, [('t', 7, 256)])
+    case('no constant', (13, 0, 0), session, [('t', 7, 0)])
+    case('one instruction more', (14, 0, 2), session, [('t', 8, 3)])
+    case('6: 4,097 instructions', (6, 0, 0), session, [('t', 8, 4097)])
+    case('4,096 instructions, those not read are Move', (14, 0, 4095), session, [('t', 8, 4096)])
+    case('6: an instruction of more than five bytes', (6, 0, 0), session, [('c', 1, 2**40)])
+    case('an instruction of five bytes 255', (10, 0, 1), session, [('c', 1, 2**40 - 1)])
+    case('6: kind 5', (6, 0, 0), session, [('k', 0, 5)])
+    case('6: kind 255', (6, 0, 0), session, [('k', 0, 255)])
+    case('6: a nil that carries 7', (6, 0, 0), session, [('k', 0, 0)])
+    case('6: a boolean 7', (6, 0, 0), session, [('k', 0, 1)])
+    case('a boolean 1', (0, 0, 0), session, [('k', 0, 1), ('w', 0, 1)])
+    case('6: a boolean 2', (6, 0, 0), session, [('k', 0, 1), ('w', 0, 2)])
+    case('a string of 64 bytes', (0, 0, 0), session, [('k', 0, 4), ('w', 0, 64)])
+    case('6: a string of 65 bytes', (6, 0, 0), session, [('k', 0, 4), ('w', 0, 65)])
+    case('6: a string that does not start where the texts are passed up to', (6, 0, 0), session, [('k', 0, 4), ('w', 0, 65536 + 1)])
+    case('what lies beyond does not matter', (0, 0, 0), session,
+         [('t', 9, 77), ('c', 2, 2**64 - 1), ('k', 1, 99), ('w', 1, 99), ('x', 0, 99)])
+    pair = [(1, [], [RETURN])] * 2
+    case('the longest two prototypes that an image can say', (14, 0, 4095), pair, [('t', 8, 4096), ('t', 12, 4096 + 943)])
+    case('6: one instruction more than an image can say', (6, 0, 0), pair, [('t', 8, 4096), ('t', 12, 4096 + 944)])
+
+
+def main():
+    for group in (searches, unary, loads, calls, jumps, tests, binaries, closures, not_carried, storages):
+        group()
+    here = os.path.join(os.path.dirname(os.path.abspath(__file__)), '..', '..', 'crates', 'checks')
+    for name, parts in (('stdin', LIST), ('stdout', ANSWERS)):
+        with open(os.path.join(here, name), 'w', encoding='ascii', newline='\n') as out:
+            out.write(''.join(parts))
+    print('%d cases, %d bytes' % (len(ANSWERS), sum(map(len, LIST))))
+
+
+main()
