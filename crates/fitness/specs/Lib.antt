@@ -1,0 +1,2 @@
+-- When a machine's state is fit to run.
+pub mod Fit

@@ -1,0 +1,295 @@
+// Whether a state is fit to run, for any contents of the lent slices: document 01's list, test by test.
+use checker::Instruction;
+use storage::Validity;
+ghost use mathlib.Core.Path.{_≡_};
+ghost use Prim.Native.Nat.{_≤_};
+ghost use Rattle.storage.specs.Layout.{storage};
+ghost use Rattle.storage.specs.Stored.{readsBack};
+ghost use Rattle.activation.specs.Frames.{depthIn, baseOf};
+ghost use Rattle.fitness.specs.Fit.{state, allBelow, stateLong, markFits, decodedAt, isCall, isReturn, thereIn, beforeIn, waitsIn, stackFits, endFits, valueFits, registerFits, valuesFit, fitOf};
+
+// The published size of `kinds` and `words`: 2,048 registers, and room behind the last window.
+pub const REGISTERS: usize = 2308;
+
+// ---- 5 and 6
+
+// Whether the state's slices are long enough.
+fn is_state_long(frames: &[u64], kinds: &[u8], words: &[u64]) -> bool
+    ensures { λ r. ⌜ r ≡ stateLong (state (now (frames .entry)) (now (kinds .entry)) (now (words .entry))) ⌝ }
+{
+    if frames.len() < activation::FRAMES {
+        return false;
+    }
+    if kinds.len() < REGISTERS {
+        return false;
+    }
+    if words.len() < REGISTERS {
+        return false;
+    }
+    true
+}
+
+fn reads_back(
+    table: &[u64],
+    code: &[u64],
+    const_kinds: &[u8],
+    const_words: &[u64],
+    texts: &[u8],
+) -> bool
+    ensures { λ r. ⌜ r ≡ readsBack (storage (now (table .entry)) (now (code .entry)) (now («const_kinds» .entry)) (now («const_words» .entry)) (now (texts .entry))) ⌝ }
+{
+    match storage::valid(table, code, const_kinds, const_words, texts) {
+        Validity::Bytes(_) => true,
+        Validity::Six => false,
+    }
+}
+
+// ---- the mark
+
+// Running, finished, or a Lua error's number.
+fn mark_fits(m: u64) -> bool
+    ensures { λ r. ⌜ r ≡ markFits m ⌝ }
+{
+    (m == 70) | (m == 0) | ((30 <= m) & (m <= 44)) | ((50 <= m) & (m <= 52))
+}
+
+// ---- instructions of activations
+
+// The instruction at place p of prototype q; one that is not there is bad.
+fn decoded(table: &[u64], code: &[u64], q: usize, p: usize) -> Instruction
+    ensures { λ r. ⌜ r ≡ decodedAt (now (table .entry)) (now (code .entry)) q p ⌝ }
+{
+    if storage::instructions(table, q) <= p {
+        return Instruction::Bad(14);
+    }
+    let l = checker::limits_of(table, q);
+    let w = storage::instruction(table, code, q, p);
+    checker::decode(l, p, w)
+}
+
+fn is_call(i: Instruction) -> bool
+    ensures { λ r. ⌜ r ≡ isCall i ⌝ }
+{
+    match i {
+        Instruction::Unary(_, _, _) => false,
+        Instruction::LoadConstant(_, _) => false,
+        Instruction::LoadBool(_, _, _) => false,
+        Instruction::LoadNil(_, _) => false,
+        Instruction::Call(_, _, _) => true,
+        Instruction::Return(_, _) => false,
+        Instruction::Jump(_) => false,
+        Instruction::Test(_, _) => false,
+        Instruction::TestSet(_, _, _) => false,
+        Instruction::Closure(_, _) => false,
+        Instruction::NumericForPrep(_, _) => false,
+        Instruction::NumericForLoop(_, _) => false,
+        Instruction::Compare(_, _, _, _) => false,
+        Instruction::Binary(_, _, _, _) => false,
+        Instruction::Bad(_) => false,
+    }
+}
+
+fn is_return(i: Instruction) -> bool
+    ensures { λ r. ⌜ r ≡ isReturn i ⌝ }
+{
+    match i {
+        Instruction::Unary(_, _, _) => false,
+        Instruction::LoadConstant(_, _) => false,
+        Instruction::LoadBool(_, _, _) => false,
+        Instruction::LoadNil(_, _) => false,
+        Instruction::Call(_, _, _) => false,
+        Instruction::Return(_, _) => true,
+        Instruction::Jump(_) => false,
+        Instruction::Test(_, _) => false,
+        Instruction::TestSet(_, _, _) => false,
+        Instruction::Closure(_, _) => false,
+        Instruction::NumericForPrep(_, _) => false,
+        Instruction::NumericForLoop(_, _) => false,
+        Instruction::Compare(_, _, _, _) => false,
+        Instruction::Binary(_, _, _, _) => false,
+        Instruction::Bad(_) => false,
+    }
+}
+
+// ---- the stack of activations
+
+// Whether activation i names a prototype and an instruction that are there.
+fn is_there(table: &[u64], frames: &[u64], i: usize) -> bool
+    ensures { λ r. ⌜ r ≡ thereIn (now (table .entry)) (now (frames .entry)) i ⌝ }
+{
+    let q = activation::prototype_of(frames, i);
+    let p = activation::instruction_of(frames, i);
+    (q < storage::prototypes(table)) & (p < storage::instructions(table, q))
+}
+
+// The instruction before that of activation i.
+fn instruction_before(table: &[u64], code: &[u64], frames: &[u64], i: usize) -> Instruction
+    ensures { λ r. ⌜ r ≡ beforeIn (now (table .entry)) (now (code .entry)) (now (frames .entry)) i ⌝ }
+{
+    let p = activation::instruction_of(frames, i);
+    if p == 0 {
+        return Instruction::Bad(14);
+    }
+    let q = activation::prototype_of(frames, i);
+    decoded(table, code, q, p - 1)
+}
+
+// Whether activation i stands just after a Call.
+fn waits(table: &[u64], code: &[u64], frames: &[u64], i: usize) -> bool
+    ensures { λ r. ⌜ r ≡ waitsIn (now (table .entry)) (now (code .entry)) (now (frames .entry)) i ⌝ }
+{
+    is_call(instruction_before(table, code, frames, i))
+}
+
+fn all_there(table: &[u64], frames: &[u64], n: usize) -> bool
+    ensures { λ r. ⌜ r ≡ allBelow (thereIn (now (table .entry)) (now (frames .entry))) n ⌝ }
+{
+    let mut i: usize = 0;
+    while i < n {
+        if !is_there(table, frames, i) {
+            return false;
+        }
+        i += 1;
+    }
+    true
+}
+
+fn all_wait(table: &[u64], code: &[u64], frames: &[u64], n: usize) -> bool
+    ensures { λ r. ⌜ r ≡ allBelow (waitsIn (now (table .entry)) (now (code .entry)) (now (frames .entry))) n ⌝ }
+{
+    let mut i: usize = 0;
+    while i < n {
+        if !waits(table, code, frames, i) {
+            return false;
+        }
+        i += 1;
+    }
+    true
+}
+
+fn stack_fits(table: &[u64], code: &[u64], frames: &[u64]) -> bool
+    ensures { λ r. ⌜ r ≡ stackFits (now (table .entry)) (now (code .entry)) (now (frames .entry)) ⌝ }
+{
+    let depth = activation::depth(frames);
+    if depth < 1 {
+        return false;
+    }
+    if 16 < depth {
+        return false;
+    }
+    if 2048 < activation::base_of(table, frames, depth) {
+        return false;
+    }
+    if !all_there(table, frames, depth) {
+        return false;
+    }
+    all_wait(table, code, frames, depth - 1)
+}
+
+// A finished machine is one activation at a Return.
+fn end_fits(table: &[u64], code: &[u64], frames: &[u64]) -> bool
+    ensures { λ r. ⌜ r ≡ endFits (now (table .entry)) (now (code .entry)) (now (frames .entry)) ⌝ }
+{
+    if activation::mark(frames) != 0 {
+        return true;
+    }
+    if activation::depth(frames) != 1 {
+        return false;
+    }
+    let q = activation::prototype_of(frames, 0);
+    let p = activation::instruction_of(frames, 0);
+    is_return(decoded(table, code, q, p))
+}
+
+// ---- the live registers
+
+// Whether a kind and a word are a value of this image: a function's prototype is there, and a string's constant is there
+// and is a string.
+fn value_fits(table: &[u64], const_kinds: &[u8], kind: u8, word: u64) -> bool
+    ensures { λ r. ⌜ r ≡ valueFits (now (table .entry)) (now («const_kinds» .entry)) kind word ⌝ }
+{
+    if !constant::is_value(kind, word) {
+        return false;
+    }
+    let prototypes = storage::prototypes(table);
+    let at = word as usize;
+    if kind == 5 {
+        return at < prototypes;
+    }
+    if kind == 4 {
+        let constants = storage::first_constant(table, prototypes);
+        return (at < constants) & (slices::byte_at(const_kinds, 0, at) == 4);
+    }
+    true
+}
+
+fn register_fits(table: &[u64], const_kinds: &[u8], kinds: &[u8], words: &[u64], r: usize) -> bool
+    ensures { λ a. ⌜ a ≡ registerFits (now (table .entry)) (now («const_kinds» .entry)) (now (kinds .entry)) (now (words .entry)) r ⌝ }
+{
+    let kind = slices::byte_at(kinds, 0, r);
+    let word = slices::word_at(words, 0, r);
+    value_fits(table, const_kinds, kind, word)
+}
+
+fn all_fit(table: &[u64], const_kinds: &[u8], kinds: &[u8], words: &[u64], n: usize) -> bool
+    ensures { λ r. ⌜ r ≡ allBelow (registerFits (now (table .entry)) (now («const_kinds» .entry)) (now (kinds .entry)) (now (words .entry))) n ⌝ }
+{
+    let mut i: usize = 0;
+    while i < n {
+        if !register_fits(table, const_kinds, kinds, words, i) {
+            return false;
+        }
+        i += 1;
+    }
+    true
+}
+
+fn values_fit(
+    table: &[u64],
+    const_kinds: &[u8],
+    frames: &[u64],
+    kinds: &[u8],
+    words: &[u64],
+) -> bool
+    requires { ⌜ baseOf (now table) (now frames) (depthIn (now frames)) ≤ 2048 ⌝ }
+    ensures { λ r. ⌜ r ≡ valuesFit (now (table .entry)) (now («const_kinds» .entry)) (state (now (frames .entry)) (now (kinds .entry)) (now (words .entry))) ⌝ }
+{
+    let depth = activation::depth(frames);
+    let end = activation::base_of(table, frames, depth);
+    all_fit(table, const_kinds, kinds, words, end)
+}
+
+// ---- the whole test
+
+pub fn fit(
+    table: &[u64],
+    code: &[u64],
+    const_kinds: &[u8],
+    const_words: &[u64],
+    texts: &[u8],
+    frames: &[u64],
+    kinds: &[u8],
+    words: &[u64],
+) -> bool
+    ensures { λ r. ⌜ r ≡ fitOf (storage (now (table .entry)) (now (code .entry)) (now («const_kinds» .entry)) (now («const_words» .entry)) (now (texts .entry))) (state (now (frames .entry)) (now (kinds .entry)) (now (words .entry))) ⌝ }
+{
+    if !storage::is_long_enough(table, code, const_kinds, const_words, texts) {
+        return false;
+    }
+    if !is_state_long(frames, kinds, words) {
+        return false;
+    }
+    if !reads_back(table, code, const_kinds, const_words, texts) {
+        return false;
+    }
+    if !mark_fits(activation::mark(frames)) {
+        return false;
+    }
+    if !stack_fits(table, code, frames) {
+        return false;
+    }
+    if !end_fits(table, code, frames) {
+        return false;
+    }
+    values_fit(table, const_kinds, frames, kinds, words)
+}
