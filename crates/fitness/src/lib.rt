@@ -14,7 +14,7 @@ pub const REGISTERS: usize = 2308;
 // ---- 5 and 6
 
 // Whether the state's slices are long enough.
-fn is_state_long(frames: &[u64], kinds: &[u8], words: &[u64]) -> bool
+pub fn is_state_long(frames: &[u64], kinds: &[u8], words: &[u64]) -> bool
     ensures { λ r. ⌜ r ≡ stateLong (state (now (frames .entry)) (now (kinds .entry)) (now (words .entry))) ⌝ }
 {
     if frames.len() < activation::FRAMES {
@@ -56,7 +56,7 @@ fn mark_fits(m: u64) -> bool
 // ---- instructions of activations
 
 // The instruction at place p of prototype q; one that is not there is bad.
-fn decoded(table: &[u64], code: &[u64], q: usize, p: usize) -> Instruction
+pub fn decoded(table: &[u64], code: &[u64], q: usize, p: usize) -> Instruction
     ensures { λ r. ⌜ r ≡ decodedAt (now (table .entry)) (now (code .entry)) q p ⌝ }
 {
     if storage::instructions(table, q) <= p {
@@ -123,7 +123,7 @@ fn is_there(table: &[u64], frames: &[u64], i: usize) -> bool
 }
 
 // The instruction before that of activation i.
-fn instruction_before(table: &[u64], code: &[u64], frames: &[u64], i: usize) -> Instruction
+pub fn instruction_before(table: &[u64], code: &[u64], frames: &[u64], i: usize) -> Instruction
     ensures { λ r. ⌜ r ≡ beforeIn (now (table .entry)) (now (code .entry)) (now (frames .entry)) i ⌝ }
 {
     let p = activation::instruction_of(frames, i);

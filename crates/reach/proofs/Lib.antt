@@ -1,0 +1,3 @@
+-- What the rules leave of a decoded instruction, and how far the effect of one reaches.
+pub mod Decoding
+pub mod Reaching

@@ -1,0 +1,2 @@
+-- The laws behind a start.
+pub mod Starts

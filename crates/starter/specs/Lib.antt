@@ -1,0 +1,2 @@
+-- What a start answers, and the state that it leaves.
+pub mod Start
