@@ -4,15 +4,17 @@ use mathlib.Core.Path.{_≡_}
 use mathlib.Core.List.{List, _∷_}
 use lib.ListN.{length, drop}
 use lib.Seq.{sets}
+use Rattle.image.specs.Lines.{lineLen}
 use Rattle.image.specs.Frames.{F, shape, framesOf, firstFrame}
 use Rattle.storage.specs.declared.Tops.{Tops}
 use Rattle.storage.specs.Layout.{entryOf, codesOf, kindsOf, wordsOf, textsOf, contentsOf, tableSize, codeSize, constantSize, textSize}
 use Rattle.reader.specs.declared.line.Next.{Next}
 
--- the line at `at` was read: its frame, and the frames after it stand at r .next
+-- the line at `at` was read: its frame, where its text ends, and the frames after it stand at r .next
 pub record Advance (s : List ℕ) (at : ℕ) (r : Next) : Type 0 where
   pub here : r .frame ≡ shape (firstFrame (drop at s))
   pub list : framesOf (drop at s) ≡ firstFrame (drop at s) ∷ framesOf (drop (r .next) s)
+  pub text : r .end ≡ at + lineLen (drop at s)
   pub more : at < r .next
   pub within : r .next ≤ length s
 

@@ -1,6 +1,6 @@
 // The second pass: an image's frames, appended one after the other to the lent slices.
 use crate::hex;
-use crate::line;
+use crate::view;
 use image::Frame;
 use storage::Tops;
 ghost use mathlib.Core.Path.{_≡_};
@@ -107,11 +107,13 @@ pub(crate) fn fill_all(
         texts: 0,
     };
     while at < s.len() {
-        let e = line::find_lf(s, at);
+        let line = view::frame_at(s, at);
+        let f = line.frame;
+        let e = line.end;
+        let next = line.next;
         if s.len() <= e {
             return;
         }
-        let f = line::frame_of(&s[at..e]);
         t = put_frame(
             &s[at..e],
             f,
@@ -122,6 +124,6 @@ pub(crate) fn fill_all(
             const_words,
             texts,
         );
-        at = e + 1;
+        at = next;
     }
 }

@@ -1,5 +1,5 @@
 // The first pass: whether an image is accepted.
-use crate::line;
+use crate::view;
 use image::Counts;
 use image::Judged;
 use image::Step;
@@ -21,7 +21,7 @@ pub(crate) fn judge(s: &[u8]) -> Judged
         codes: 0,
     };
     while at < s.len() {
-        let n = line::next_frame(s, at);
+        let n = view::frame_at(s, at);
         let f = n.frame;
         let next = n.next;
         let t = image::step_on(st, f);

@@ -3,6 +3,7 @@ mod fill;
 mod hex;
 mod judge;
 mod line;
+mod view;
 
 use image::Judged;
 ghost use Rattle.storage.specs.Layout.{storage};

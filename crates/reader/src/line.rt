@@ -11,7 +11,7 @@ ghost use Rattle.image.specs.Frames.{shape, openBytes, wordBytesOf, constBytes,
 ghost use Rattle.reader.specs.Steps.{Advance};
 
 // Where the first LF at or after `at` stands; the length where there is none.
-pub(crate) fn find_lf(s: &[u8], at: usize) -> usize
+fn find_lf(s: &[u8], at: usize) -> usize
     requires { ⌜ at ≤ length (now s) ⌝ }
     ensures { λ r. ⌜ r ≡ at + lineLen (drop at (now (s .entry))) ⌝ }
 {
@@ -129,7 +129,7 @@ fn kind_frame(s: &[u8]) -> Frame
 }
 
 // A line's text: by 1, then by 2.
-pub(crate) fn frame_of(s: &[u8]) -> Frame
+fn frame_of(s: &[u8]) -> Frame
     ensures { λ r. ⌜ r ≡ shape (frameOf (now (s .entry))) ⌝ }
 {
     if s.len() < 1 {
@@ -142,9 +142,10 @@ pub(crate) fn frame_of(s: &[u8]) -> Frame
     kind_frame(s)
 }
 
-// A line's frame, and where the next line starts.
+// A line's frame, where its text ends (at its LF, or with the image), and where the next line starts.
 pub(crate) struct Next {
     pub(crate) frame: Frame,
+    pub(crate) end: usize,
     pub(crate) next: usize,
 }
 
@@ -157,12 +158,14 @@ pub(crate) fn next_frame(s: &[u8], at: usize) -> Next
     if s.len() <= e {
         return Next {
             frame: Frame::Bad(1),
+            end: e,
             next: s.len(),
         };
     }
     let f = frame_of(&s[at..e]);
     Next {
         frame: f,
+        end: e,
         next: e + 1,
     }
 }

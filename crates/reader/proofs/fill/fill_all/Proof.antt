@@ -2,11 +2,11 @@
 use borrow.Author.Needs.{needs}
 use native.Mathlib.Omega.{arith}
 use Prim.Native.Nat.{_+_, _-_, _≤_}
-use mathlib.Core.Path.{_∙_}
+use mathlib.Core.Path.{ap, _∙_}
 use lib.ListN.{length, drop}
-use Rattle.image.specs.Frames.{framesOf}
+use Rattle.image.specs.Frames.{shape, framesOf}
 use Rattle.image.specs.Lines.{lineLen}
-use Rattle.reader.proofs.LineLaws.{frames-cut, frames-uncut, frames-none}
+use Rattle.reader.proofs.LineLaws.{first-cut, frames-uncut, frames-none}
 use Rattle.reader.proofs.Parts.{Left, left-start, left-small, left-turn, left-end, left-bad}
 use Rattle.reader.proofs.fill.fill_all.Statement.{statement}
 use Rattle.reader.proofs.fill.fill_all.Tie as tie
@@ -25,8 +25,8 @@ put-word-requires c κs = search needs
 loop-holds : tie.Need-loop-holds Inv-loop μ-loop
 loop-holds c = (omega arith, left-start _ _ _ _ _ _)
 
-find-lf-requires : tie.Need-find-lf-requires Inv-loop μ-loop
-find-lf-requires c κs = c .before .loop .inv .0
+frame-at-requires : tie.Need-frame-at-requires Inv-loop μ-loop
+frame-at-requires c κs = c .loop-test .taken
 
 same-length : tie.Need-same-length Inv-loop μ-loop
 same-length c = c .before .before .before .loop .inv .1 .table .same ∙ c .before .before .before .before .before .before .put-word .kept .0
@@ -47,54 +47,41 @@ returns : tie.Need-returns Inv-loop μ-loop
 returns c =
     let l = c .before .before .before .before .before .before .before .before .before .before .before .before .before .before .args .s .now in
     let o = c .before .before .before .loop in
-    let h : length l ≤ o .at + lineLen (drop (o .at) l) = omega (arith, c .before .find-lf .ensures, c .if1 .taken) in
+    let h : length l ≤ o .at + lineLen (drop (o .at) l) = omega (arith, c .before .frame-at .ensures .text, c .if1 .taken) in
     let v = rw (frames-uncut l (o .at) h (c .before .before .loop-test .taken), frames-none l (length l) (omega arith)) at (o .inv .1) in
     left-end _ _ _ _ _ _ _ _ _ _ _ _ _ _ (c .before .before .before .before .before .before .put-word .ensures) (left-bad _ _ _ _ _ _ _ _ _ _ _ _ _ v)
 
-sub-frame-of : tie.Need-sub-frame-of Inv-loop μ-loop
-sub-frame-of c = omega (arith, c .before .find-lf .ensures)
-
-part-frame-of-start : tie.Need-part-frame-of-start Inv-loop μ-loop
-part-frame-of-start c = omega (arith, c .before .find-lf .ensures)
-
-part-frame-of-end : tie.Need-part-frame-of-end Inv-loop μ-loop
-part-frame-of-end c = omega (arith, c .if1 .left)
-
-frame-of-requires : tie.Need-frame-of-requires Inv-loop μ-loop
-frame-of-requires c κs = tt
-
 sub-put-frame : tie.Need-sub-put-frame Inv-loop μ-loop
-sub-put-frame c = omega (arith, c .before .before .before .find-lf .ensures)
+sub-put-frame c = omega (arith, c .before .frame-at .ensures .text)
 
 part-put-frame-start : tie.Need-part-put-frame-start Inv-loop μ-loop
-part-put-frame-start c = omega (arith, c .before .before .before .find-lf .ensures)
+part-put-frame-start c = omega (arith, c .before .frame-at .ensures .text)
 
 part-put-frame-end : tie.Need-part-put-frame-end Inv-loop μ-loop
-part-put-frame-end c = omega (arith, c .before .before .if1 .left)
+part-put-frame-end c = omega (arith, c .if1 .left)
 
 put-frame-requires : tie.Need-put-frame-requires Inv-loop μ-loop
 put-frame-requires c κs =
-    let o = c .before .before .before .before .before .before .before .before .before .before .before .loop in
-    (c .before .before .before .before .before .before .frame-of .ensures, left-small _ _ _ _ _ _ _ _ _ _ _ _ _ _ (o .inv .1) (c .before .before .before .before .before .before .before .before .before .before .before .before .before .before .before .before .before .before .before .before .before .before .pre))
-
-add-at : tie.Need-add-at Inv-loop μ-loop
-add-at c =
-    let b = c .before .before .before .before .before .before .before .before .before .before .before .before .before .before .before .before .before .before .before in
-    omega (arith, b .if1 .left, b .before .before .before .before .before .before .before .before .before .before .before .before .before .before .good)
+    let b = c .before .before .before .before .before .before in
+    let o = b .before .before .before .loop in
+    let g = b .before .before .before .before .before .before .before .before .before .before .before .before .before .before in
+    let n = b .before .frame-at in
+    let f = first-cut (g .args .s .now) (o .at) (n .result .end) (n .ensures .text) (b .if1 .left) in
+    (n .ensures .here ∙ ap shape f, left-small _ _ _ _ _ _ _ _ _ _ _ _ _ _ (o .inv .1) (g .pre))
 
 loop-less : tie.Need-loop-less Inv-loop μ-loop
 loop-less c =
-    let b = c .before .before .before .before .before .before .before .before .before .before .before .before .before .before .before .before .before .before .before in
-    omega (arith, b .if1 .left, b .before .find-lf .ensures, b .before .before .loop-test .taken)
+    let b = c .before .before .before .before .before .before .before .before .before .before .before .before .before .before .before .before .before .before in
+    omega (arith, b .frame-at .ensures .more, b .before .loop-test .taken)
 
 loop-again : tie.Need-loop-again Inv-loop μ-loop
 loop-again c =
-    let b = c .before .before .before .before .before .before .before .before .before .before .before .before .before .before .before .before .before .before .before in
+    let b = c .before .before .before .before .before .before .before .before .before .before .before .before .before .before .before .before .before in
     let o = b .before .before .before .loop in
     let l = b .before .before .before .before .before .before .before .before .before .before .before .before .before .before .args .s .now in
-    let e = b .before .find-lf in
-    let v = rw (frames-cut l (o .at) (e .result) (e .ensures) (b .if1 .left)) at (o .inv .1) in
-    (omega (arith, b .if1 .left), left-turn _ _ _ _ _ _ _ _ _ _ _ _ _ _ _ _ _ _ _ _ v (c .before .before .before .before .before .before .before .before .before .before .put-frame .ensures))
+    let n = b .before .frame-at in
+    let v = rw (n .ensures .list, first-cut l (o .at) (n .result .end) (n .ensures .text) (b .if1 .left)) at (o .inv .1) in
+    (n .ensures .within, left-turn _ _ _ _ _ _ _ _ _ _ _ _ _ _ _ _ _ _ _ _ v (c .before .before .before .before .before .before .before .before .before .before .put-frame .ensures))
 
 same-length-6 : tie.Need-same-length-6 Inv-loop μ-loop
 same-length-6 c = c .before .loop .inv .1 .table .same ∙ c .before .before .before .before .put-word .kept .0
@@ -125,22 +112,17 @@ fill-all-spec =
     μ-loop
     put-word-requires
     loop-holds
-    find-lf-requires
+    frame-at-requires
     same-length
     same-length-2
     same-length-3
     same-length-4
     same-length-5
     returns
-    sub-frame-of
-    part-frame-of-start
-    part-frame-of-end
-    frame-of-requires
     sub-put-frame
     part-put-frame-start
     part-put-frame-end
     put-frame-requires
-    add-at
     loop-less
     loop-again
     same-length-6

@@ -20,8 +20,8 @@ returns c = sym (judge-long _ (c .if1 .taken))
 loop-holds : tie.Need-loop-holds Inv-loop μ-loop
 loop-holds c = going-start _ (c .if1 .left)
 
-next-frame-requires : tie.Need-next-frame-requires Inv-loop μ-loop
-next-frame-requires c κs = search needs
+frame-at-requires : tie.Need-frame-at-requires Inv-loop μ-loop
+frame-at-requires c κs = search needs
 
 step-on-requires : tie.Need-step-on-requires Inv-loop μ-loop
 step-on-requires c κs = search needs
@@ -34,29 +34,29 @@ enum-told c = search needs
 
 returns-2 : tie.Need-returns-2 Inv-loop μ-loop
 returns-2 c =
-    sym (going-all _ _ _ _ (c .before .before .before .before .before .before .loop .inv) _ (c .before .before .before .before .next-frame .ensures) (sym (c .before .before .before .step-on .ensures) ∙ c .before .enum-told .given .1) (c .if2 .taken))
+    sym (going-all _ _ _ _ (c .before .before .before .before .before .before .loop .inv) _ (c .before .before .before .before .frame-at .ensures) (sym (c .before .before .before .step-on .ensures) ∙ c .before .enum-told .given .1) (c .if2 .taken))
 
 add-t15 : tie.Need-add-t15 Inv-loop μ-loop
 add-t15 c = omega arith
 
 returns-3 : tie.Need-returns-3 Inv-loop μ-loop
 returns-3 c =
-    sym (going-more _ _ _ _ (c .before .before .before .before .before .before .loop .inv) _ (c .before .before .before .before .next-frame .ensures) (sym (c .before .before .before .step-on .ensures) ∙ c .before .enum-told .given .1) (c .if2 .left))
+    sym (going-more _ _ _ _ (c .before .before .before .before .before .before .loop .inv) _ (c .before .before .before .before .frame-at .ensures) (sym (c .before .before .before .step-on .ensures) ∙ c .before .enum-told .given .1) (c .if2 .left))
 
 enum-known-t-2 : tie.Need-enum-known-t-2 Inv-loop μ-loop
 enum-known-t-2 c = search needs
 
 returns-4 : tie.Need-returns-4 Inv-loop μ-loop
-returns-4 c = sym (going-no _ _ _ _ (c .before .before .before .before .before .before .loop .inv) _ (c .before .before .before .before .next-frame .ensures) _ (sym (c .before .before .before .step-on .ensures) ∙ c .before .t2 .given .1))
+returns-4 c = sym (going-no _ _ _ _ (c .before .before .before .before .before .before .loop .inv) _ (c .before .before .before .before .frame-at .ensures) _ (sym (c .before .before .before .step-on .ensures) ∙ c .before .t2 .given .1))
 
 add-line : tie.Need-add-line Inv-loop μ-loop
 add-line c = omega arith
 
 loop-less : tie.Need-loop-less Inv-loop μ-loop
-loop-less c = omega (arith, c .before .before .before .before .next-frame .ensures .more)
+loop-less c = omega (arith, c .before .before .before .before .frame-at .ensures .more)
 
 loop-again : tie.Need-loop-again Inv-loop μ-loop
-loop-again c = going-on _ _ _ _ (c .before .before .before .before .before .before .loop .inv) _ (c .before .before .before .before .next-frame .ensures) _ (sym (c .before .before .before .step-on .ensures) ∙ c .before .t .given .1)
+loop-again c = going-on _ _ _ _ (c .before .before .before .before .before .before .loop .inv) _ (c .before .before .before .before .frame-at .ensures) _ (sym (c .before .before .before .step-on .ensures) ∙ c .before .t .given .1)
 
 returns-5 : tie.Need-returns-5 Inv-loop μ-loop
 returns-5 c = sym (going-end _ _ _ _ (c .before .loop .inv) (c .loop-test .left))
@@ -69,7 +69,7 @@ judge-spec =
     μ-loop
     returns
     loop-holds
-    next-frame-requires
+    frame-at-requires
     step-on-requires
     enum-known-t
     enum-told

@@ -20,7 +20,7 @@ returns c =
     let at = c .before .before .before .args .at in
     let h : length l ≤ at + lineLen (drop at l) = omega (arith, c .before .find-lf .ensures) in
     let f = first-uncut l at h (c .before .before .before .pre) in
-    record { here = sym (ap shape f); list = rw f (frames-uncut l at h (c .before .before .before .pre)); more = c .before .before .before .pre; within = omega arith }
+    record { here = sym (ap shape f); list = rw f (frames-uncut l at h (c .before .before .before .pre)); text = c .before .find-lf .ensures; more = c .before .before .before .pre; within = omega arith }
 
 sub-frame-of : tie.Need-sub-frame-of
 sub-frame-of c = search needs
@@ -45,7 +45,7 @@ returns-2 c =
     let h : e ≡ at + lineLen (drop at l) = c .before .before .before .find-lf .ensures in
     let k : e < length l = c .before .before .if1 .left in
     let f = first-cut l at e h k in
-    record { here = c .frame-of .ensures ∙ ap shape (sym f); list = rw f (frames-cut l at e h k); more = omega arith; within = omega arith }
+    record { here = c .frame-of .ensures ∙ ap shape (sym f); list = rw f (frames-cut l at e h k); text = h; more = omega arith; within = omega arith }
 
 pub next-frame-spec : {M : Type 1} → statement M
 next-frame-spec =
