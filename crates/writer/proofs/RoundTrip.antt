@@ -50,7 +50,7 @@ read-reads {s} {q} {S} {S'} r =
       texts = take-append-seam _ _;
     }
 
-left-long : (X S : Storage) → longEnough S ≡ true → longEnough (laidIn X S) ≡ true
+pub left-long : (X S : Storage) → longEnough S ≡ true → longEnough (laidIn X S) ≡ true
 unfolding longEnough
 left-long X S h =
     let a = pick-true _ _ h in

@@ -1,0 +1,112 @@
+-- The session of 01 is read, accepted and started. Assumes nothing.
+use mathlib.Core.Path.{_≡_, refl, sym, ap, _∙_}
+use mathlib.Core.Bool.{true}
+use mathlib.Core.List.{List, [], _∷_}
+use Prim.Native.Nat.{ℕ, _<_}
+use native.Mathlib.Omega.{arith}
+use borrow.Author.Tests.{eqb-true, eqb-false}
+use lib.Dec.{eqb}
+use lib.ListN.{drop}
+use lib.Seq.{take-append-seam}
+use Rattle.image.specs.Hex.{digitOf, paired, bytesOf, wordFrom}
+use Rattle.image.specs.Lines.{onto, lines}
+use Rattle.image.specs.Frames.{F, opens, const, code, ends, shape, openBytes, payload, mostOf, wordBytesOf, constBytes, codeBytes, endBytes, kindBytes, frameOf, lineFrame, framesOf}
+use Rattle.image.specs.Judge.{constStep, codeStep, stepOf, atEnd, after, judgeFrames, judgeOf}
+use Rattle.image.specs.declared.Judged.the-variants as judged
+use Rattle.storage.specs.Layout.{Storage, entryOf, codesOf, kindsOf, entriesAll, codesAll, contentsOf, laidIn, longEnough}
+use Rattle.storage.specs.Stored.{readsBack}
+use Rattle.storage.proofs.Six.{readable-back}
+use Rattle.writer.proofs.RoundTrip.{left-long}
+use Rattle.checker.specs.Operations.{shapeOf, nextOf}
+use Rattle.checker.specs.Rules.{carried, tidy, registersIn, constantsIn, inside, allInside, targetsIn, prototypeIn}
+use Rattle.checker.specs.Check.{checkOf}
+use Rattle.checker.specs.declared.Checked.the-variants.{Accepted}
+use Rattle.checker.specs.Kept.{KeptAt, Sound, Demanded}
+use Rattle.checker.proofs.Bools.{test-cases}
+use Rattle.checker.proofs.Exact.{exact}
+use Rattle.fitness.specs.Fit.{allBelow}
+use Rattle.starter.specs.Start.{permitted, checkedStart, startOf}
+use Rattle.laws.specs.Session.{sessionImage, sessionIn, SessionStarts}
+
+abbrev frames : List F
+frames = opens 1 0 ∷ const 2 7 ∷ code 0x400_0000 ∷ code 0x3000_0100 ∷ ends 1 ∷ []
+
+frames-are : framesOf sessionImage ≡ frames
+unfolding sessionImage framesOf lineFrame frameOf kindBytes endBytes codeBytes constBytes wordBytesOf mostOf payload openBytes lines onto wordFrom bytesOf paired digitOf
+frames-are = refl
+
+image-accepted : judgeOf sessionImage ≡ judged.Accepted 1
+unfolding judgeOf judgeFrames after atEnd stepOf codeStep constStep shape sessionImage framesOf lineFrame frameOf kindBytes endBytes codeBytes constBytes wordBytesOf mostOf payload openBytes lines onto wordFrom bytesOf paired digitOf
+image-accepted = refl
+
+-- ---- read
+
+reads : (lent : Storage) → readsBack (sessionIn lent) ≡ true
+unfolding sessionIn
+reads lent =
+    readable-back {s = sessionImage}
+    record {
+      count = 1;
+      accepted = image-accepted;
+      table = take-append-seam _ _;
+      code = take-append-seam _ _;
+      kinds = take-append-seam _ _;
+      words = take-append-seam _ _;
+      texts = take-append-seam _ _;
+    }
+
+-- ---- accepted
+
+module _ (x y : List ℕ) where
+  abbrev table : List ℕ
+  table = 1 ∷ 1 ∷ 0 ∷ 0 ∷ 0 ∷ 0 ∷ 0 ∷ 1 ∷ 2 ∷ x
+
+  abbrev codes : List ℕ
+  codes = 0x400_0000 ∷ 0x3000_0100 ∷ y
+
+  first : KeptAt table codes 0 0
+  unfolding shapeOf carried tidy registersIn constantsIn targetsIn allInside inside nextOf prototypeIn
+  first = record { carried = refl; tidy = refl; registers = refl; constants = refl; targets = refl; prototype = refl }
+
+  second : KeptAt table codes 0 1
+  unfolding shapeOf carried tidy registersIn constantsIn targetsIn allInside inside nextOf prototypeIn
+  second = record { carried = refl; tidy = refl; registers = refl; constants = refl; targets = refl; prototype = refl }
+
+  each : (i : ℕ) → i < 2 → KeptAt table codes 0 i
+  each i h =
+      test-cases (eqb i 0) (λ e. let z : i ≡ 0 = eqb-true i 0 e in rw z first)
+      (λ e. let n = eqb-false i 0 e in
+      let z : i ≡ 1 = omega (arith, n) in
+      rw z second)
+
+  sound : (q : ℕ) → q < 1 → Sound table codes q
+  sound q h =
+      let z : q ≡ 0 = omega arith in
+      rw z (record { some = λ e. omega arith; each = each })
+
+-- the storage with the frames written out
+abbrev plain : Storage → Storage
+plain lent = laidIn (contentsOf 1 frames) lent
+
+plain-is : (lent : Storage) → sessionIn lent ≡ plain lent
+unfolding sessionIn
+plain-is lent = ap (λ (fs : List F). laidIn (contentsOf 1 fs) lent) frames-are
+
+demanded : (lent : Storage) → longEnough lent ≡ true → Demanded (plain lent)
+unfolding entriesAll entryOf codesAll codesOf kindsOf
+demanded lent l =
+    record {
+      long = left-long (contentsOf 1 frames) lent l;
+      reads = sym (ap readsBack (plain-is lent)) ∙ reads lent;
+      some = (λ e. omega arith);
+      each = sound (drop 9 (lent .table)) (drop 2 (lent .code));
+    }
+
+accepted : (lent : Storage) → longEnough lent ≡ true → checkOf (sessionIn lent) ≡ Accepted
+accepted lent l = ap checkOf (plain-is lent) ∙ exact (plain lent) .1 (demanded lent l)
+
+-- ---- started
+
+pub session-starts : SessionStarts
+unfolding startOf checkedStart permitted allBelow
+session-starts lent s l h = rw (h, accepted lent l)

@@ -1,0 +1,22 @@
+-- The laws, file by file: Laws has them all.
+pub mod Constants
+pub mod Operators
+pub mod Values
+pub mod Choices
+pub mod Windows
+pub mod Facts
+pub mod Frames
+pub mod Stacks
+pub mod Bounds
+pub mod Naming
+pub mod Moves
+pub mod Steps
+pub mod Runs
+pub mod Started
+pub mod NoFault
+pub mod Counts
+pub mod Marks
+pub mod Splits
+pub mod Example
+pub mod Examples
+pub mod Laws

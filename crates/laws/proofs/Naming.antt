@@ -1,0 +1,153 @@
+-- What an effect says of its instruction: only a Call enters, only a Return leaves, and in an accepted image none faults. Assumes nothing.
+use mathlib.Core.Path.{_≡_, refl}
+use mathlib.Core.Bool.{Bool, true, Bool·beq, _&&_, false≢true}
+use mathlib.Core.List.{List}
+use Prim.Native.Nat.{ℕ, _<_}
+use borrow.Author.Tests.{lt-ltb}
+use Rattle.image.proofs.Cases.{pick-cases}
+use Rattle.storage.specs.Layout.{Storage}
+use Rattle.storage.specs.Fields.{prototypesOf, instructionsOf, instructionAt}
+use Rattle.constant.specs.Values.{truth, valueOf}
+use Rattle.constant.specs.Operators.{addOf}
+use Rattle.constant.specs.Comparison.{lessThanOf, lessEqualOf, isNumeric, pastEndOf}
+use Rattle.constant.specs.declared.Value.{Value}
+use Rattle.constant.specs.declared.Answer.{Answer}
+use Rattle.constant.specs.declared.Answer.the-variants.{Is, Raises}
+use Rattle.constant.specs.declared.Compared.{Compared}
+use Rattle.constant.specs.declared.Compared.the-variants as compared
+use Rattle.checker.specs.Operations.{Shape, copies, loadsConstant, loadsBool, loadsNil, calls, returns, jumps, tests, testsAndSets, closes, prepares, loops, compares, combines, unknown, shapeAt}
+use Rattle.checker.specs.Rules.{carried}
+use Rattle.checker.specs.Decode.{operandsOf, decodeOf}
+use Rattle.checker.specs.Check.{limitsOf}
+use Rattle.checker.specs.Kept.{Kept, Demanded}
+use Rattle.checker.specs.declared.Limits.{Limits}
+use Rattle.checker.specs.declared.Unary.{Unary}
+use Rattle.checker.specs.declared.Unary.the-variants as unary
+use Rattle.checker.specs.declared.Compare.{Compare}
+use Rattle.checker.specs.declared.Compare.the-variants as compare
+use Rattle.checker.specs.declared.Instruction.{Instruction}
+use Rattle.checker.specs.declared.Instruction.the-variants as instruction
+use Rattle.checker.proofs.Lowest.{unbroken}
+use Rattle.effects.specs.declared.Go.{Go}
+use Rattle.effects.specs.declared.Effect.{Effect}
+use Rattle.effects.specs.declared.Effect.the-variants.{Set, Goto, Clear, Loop, Enter, Leave, Fail, Fault}
+use Rattle.effects.specs.Effects.{Sight, stored, skipIf, decided, unaryEffect, compareEffect, testSetEffect, prepEffect, loopWith, loopEffect, effectOf}
+use Rattle.fitness.specs.Fit.{isCall, isReturn, decodedAt}
+
+-- ---- an instruction that keeps the rules
+
+abbrev pub Good : Instruction → Type 0
+Good (instruction.Unary u d s) = Unit {0}
+Good (instruction.LoadConstant d c) = Unit {0}
+Good (instruction.LoadBool d b n) = Unit {0}
+Good (instruction.LoadNil d n) = Unit {0}
+Good (instruction.Call f a r) = Unit {0}
+Good (instruction.Return s n) = Unit {0}
+Good (instruction.Jump t) = Unit {0}
+Good (instruction.Test r b) = Unit {0}
+Good (instruction.TestSet d r b) = Unit {0}
+Good (instruction.Closure d q) = Unit {0}
+Good (instruction.NumericForPrep b t) = Unit {0}
+Good (instruction.NumericForLoop b t) = Unit {0}
+Good (instruction.Compare c b l r) = Unit {0}
+Good (instruction.Binary o d l r) = Unit {0}
+Good (instruction.Bad n) = ⊥
+
+operands-good : (s : Shape) (p w : ℕ) → carried s w ≡ true → Good (operandsOf s p w)
+unfolding operandsOf carried
+operands-good copies p w e = tt
+operands-good loadsConstant p w e = tt
+operands-good loadsBool p w e = tt
+operands-good loadsNil p w e = tt
+operands-good calls p w e = tt
+operands-good returns p w e = tt
+operands-good jumps p w e = tt
+operands-good tests p w e = tt
+operands-good testsAndSets p w e = tt
+operands-good closes p w e = tt
+operands-good prepares p w e = tt
+operands-good loops p w e = tt
+operands-good compares p w e = tt
+operands-good combines p w e = tt
+operands-good unknown p w e = absurd (false≢true e)
+
+decode-good : (l : Limits) (p w : ℕ) → Kept l p w → Good (decodeOf l p w)
+unfolding decodeOf
+decode-good l p w k = rw (unbroken l p w k) (operands-good (shapeAt w) p w (k .carried))
+
+pub decoded-good :
+    (S : Storage) → Demanded S → (q p : ℕ) → q < prototypesOf (S .table) → p < instructionsOf (S .table) q
+    → Good (decodedAt (S .table) (S .code) q p)
+unfolding decodedAt
+decoded-good S d q p h g =
+    rw (lt-ltb p (instructionsOf (S .table) q) g)
+    (decode-good (limitsOf (S .table) q) p (instructionAt (S .table) (S .code) q p) (d .each q h .each p g))
+
+-- ---- the instruction that an effect tells of
+
+abbrev pub Tells : Instruction → Effect → Type 0
+Tells i (Set r k w go) = Unit {0}
+Tells i (Goto go) = Unit {0}
+Tells i (Clear r n) = Unit {0}
+Tells i (Loop r k w t) = Unit {0}
+Tells i (Enter function arguments) = isCall i ≡ true
+Tells i (Leave start n) = isReturn i ≡ true
+Tells i (Fail n) = Unit {0}
+Tells i Fault = ⊥
+
+module _ (i : Instruction) where
+  stored-tells : (r : ℕ) (go : Go) (a : Answer) → Tells i (stored r go a)
+  unfolding stored
+  stored-tells r go (Is v) = tt
+  stored-tells r go (Raises e) = tt
+
+  decided-tells : (b : Bool) (c : Compared) → Tells i (decided b c)
+  unfolding decided skipIf
+  decided-tells b (compared.Decided d) = tt
+  decided-tells b (compared.Raises e) = tt
+
+  unary-tells : (u : Unary) (r k w : ℕ) → Tells i (unaryEffect u r k w)
+  unfolding unaryEffect
+  unary-tells unary.Move r k w = tt
+  unary-tells unary.Not r k w = stored-tells r _ _
+  unary-tells unary.Minus r k w = stored-tells r _ _
+  unary-tells unary.BitNot r k w = stored-tells r _ _
+
+  compare-tells : (w x : List ℕ) (c : Compare) (b : Bool) (l r : Value) → Tells i (compareEffect w x c b l r)
+  unfolding compareEffect skipIf
+  compare-tells w x compare.Eq b l r = tt
+  compare-tells w x compare.Less b l r = decided-tells b (lessThanOf w x l r)
+  compare-tells w x compare.LessEq b l r = decided-tells b (lessEqualOf w x l r)
+
+  test-set-tells : (d : ℕ) (b : Bool) (k w : ℕ) → Tells i (testSetEffect d b k w)
+  unfolding testSetEffect
+  test-set-tells d b k w = pick-cases (Tells i) (Bool·beq (truth (valueOf k w)) b) _ _ (λ _. tt) (λ _. tt)
+
+  loop-with-tells : (limit step : Value) (r t : ℕ) (a : Answer) → Tells i (loopWith limit step r t a)
+  unfolding loopWith
+  loop-with-tells limit step r t (Is v) = pick-cases (Tells i) (pastEndOf v limit step) _ _ (λ _. tt) (λ _. tt)
+  loop-with-tells limit step r t (Raises e) = tt
+
+  loop-tells : (index limit step : Value) (r t : ℕ) → Tells i (loopEffect index limit step r t)
+  unfolding loopEffect
+  loop-tells index limit step r t =
+      pick-cases (Tells i) (isNumeric index && isNumeric limit && isNumeric step) _ _
+      (λ _. loop-with-tells limit step r t (addOf index step)) (λ _. tt)
+
+pub effect-tells : (g : Sight) (i : Instruction) → Good i → Tells i (effectOf g i)
+unfolding effectOf skipIf prepEffect
+effect-tells g (instruction.Unary u d s) n = unary-tells (instruction.Unary u d s) u d _ _
+effect-tells g (instruction.LoadConstant d c) n = tt
+effect-tells g (instruction.LoadBool d b to) n = tt
+effect-tells g (instruction.LoadNil d m) n = tt
+effect-tells g (instruction.Call f a r) n = refl
+effect-tells g (instruction.Return s m) n = refl
+effect-tells g (instruction.Jump t) n = tt
+effect-tells g (instruction.Test r b) n = tt
+effect-tells g (instruction.TestSet d r b) n = test-set-tells (instruction.TestSet d r b) d b _ _
+effect-tells g (instruction.Closure d q) n = tt
+effect-tells g (instruction.NumericForPrep b t) n = stored-tells (instruction.NumericForPrep b t) b _ _
+effect-tells g (instruction.NumericForLoop b t) n = loop-tells (instruction.NumericForLoop b t) _ _ _ b t
+effect-tells g (instruction.Compare c b l r) n = compare-tells (instruction.Compare c b l r) _ _ c b _ _
+effect-tells g (instruction.Binary o d l r) n = stored-tells (instruction.Binary o d l r) d _ _
+effect-tells g (instruction.Bad m) n = absurd n

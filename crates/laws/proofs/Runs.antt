@@ -1,0 +1,130 @@
+-- Runs of an accepted image from a fit state: the state is fit again, and the answer is 0, a Lua error, or 70 with the whole budget counted. Assumes nothing.
+use mathlib.Core.Path.{_≡_, refl, _∙_}
+use mathlib.Core.Bool.{Bool, true, false, _&&_, _||_}
+use mathlib.Core.List.{List, [], _∷_}
+use Prim.Native.Nat.{ℕ, zero, suc, _+_, _-_, _<_}
+use native.Mathlib.Omega.{arith}
+use borrow.Author.Tests.{leb-true, eqb-true, eqb-false}
+use lib.Dec.{leb, eqb}
+use Rattle.storage.specs.Layout.{Storage}
+use Rattle.storage.specs.Fields.{prototypesOf, registersOf, instructionsOf}
+use Rattle.checker.specs.Kept.{Demanded}
+use Rattle.checker.proofs.Bools.{and-right}
+use Rattle.activation.specs.Frames.{markIn, depthIn, prototypeIn, instructionIn, baseOf}
+use Rattle.activation.specs.Record.{innermost}
+use Rattle.effects.specs.Effects.{Sight, sight, effectOf}
+use Rattle.fitness.specs.Fit.{State, markFits, decodedAt, registerFits, fitOf}
+use Rattle.fitness.proofs.Tests.{and-left}
+use Rattle.reach.proofs.Reaching.{effect-suits}
+use Rattle.vm.specs.Step.{Turn, on, stop, fault, stepOf}
+use Rattle.vm.specs.declared.Outcome.{Outcome}
+use Rattle.vm.specs.Run.{Ended, ended, answerOf, standingOf, after, runFrom, runOf}
+use Rattle.laws.specs.Statements.{operator, call, Ends, finished, failed, used, afterRuns}
+use Rattle.laws.proofs.Choices.{cond-cases}
+use Rattle.laws.proofs.Windows.{Valid}
+use Rattle.laws.proofs.Facts.{Fit, fit-facts, facts-fit}
+use Rattle.laws.proofs.Stacks.{base-suc, there-prototype, there-instruction}
+use Rattle.laws.proofs.Values.{effect-holds}
+use Rattle.laws.proofs.Naming.{decoded-good, effect-tells}
+use Rattle.laws.proofs.Steps as steps
+use Rattle.laws.proofs.Steps.{Halts, Running, Stays, applied}
+
+-- ---- marks
+
+or-cases : {X : Type 0} (a b : Bool) → a || b ≡ true → (a ≡ true → X) → (b ≡ true → X) → X
+or-cases true b e f g = f refl
+or-cases false b e f g = g e
+
+mark-halts : (m : ℕ) → markFits m ≡ true → (m ≡ 70 → ⊥) → Halts m
+unfolding markFits
+mark-halts m e n =
+    or-cases (eqb m 70 || eqb m 0 || (leb 30 m && leb m 44)) (leb 50 m && leb m 52) e
+    (λ x. or-cases (eqb m 70 || eqb m 0) (leb 30 m && leb m 44) x
+    (λ y. or-cases (eqb m 70) (eqb m 0) y (λ z. absurd (n (eqb-true _ _ z))) (λ z. zero-halts m (eqb-true _ _ z)))
+    (λ y. steps.failed (operator (leb-true _ _ (and-left (leb 30 m) (leb m 44) y)) (leb-true _ _ (and-right (leb 30 m) (leb m 44) y)))))
+    (λ x. steps.failed (call (leb-true _ _ (and-left (leb 50 m) (leb m 52) x)) (leb-true _ _ (and-right (leb 50 m) (leb m 52) x))))
+  where
+    zero-halts : (m : ℕ) → m ≡ 0 → Halts m
+    zero-halts m z = rw z steps.finished
+
+halts-ends : (budget : ℕ) (o : Outcome) (n : ℕ) → o .number ≡ n → Halts n → Ends budget o
+halts-ends budget o n z steps.finished = finished z
+halts-ends budget o n z (steps.failed x) = failed (rw z x)
+
+-- ---- one step
+
+live :
+    (t c : List ℕ) (m base n : ℕ) (k w : List ℕ) → Valid t c m k w → m ≡ base + n → (r : ℕ) → r < n
+    → registerFits t c k w (base + r) ≡ true
+unfolding Valid
+live t c m base n k w v e r l = v (base + r) (omega arith)
+
+pub step-stays : (S : Storage) (s : State) → Demanded S → Running S s → Stays S (stepOf S s)
+unfolding stepOf innermost
+step-stays S s demanded h =
+    let t : List ℕ = S .table in
+    let f : List ℕ = s .frames in
+    let i : ℕ = depthIn f - 1 in
+    let q : ℕ = prototypeIn f i in
+    let p : ℕ = instructionIn f i in
+    let base : ℕ = baseOf t f i in
+    let st = h .fit .stack in
+    let o = st .some in
+    let there = st .there i (omega arith) in
+    let hq : q < prototypesOf t = there-prototype t f i there in
+    let hp : p < instructionsOf t q = there-instruction t f i there in
+    let g : Sight = sight t (S .kinds) (S .words) (S .texts) (s .kinds) (s .words) q base in
+    let end : baseOf t f (depthIn f) ≡ base + registersOf t q = base-suc t f (depthIn f) i (omega arith) in
+    applied S s (h .fit) (h .runs) demanded (effectOf g (decodedAt t (S .code) q p)) (effect-suits t (S .code) q p g)
+    (effect-holds S (demanded .long) (demanded .reads) (s .kinds) (s .words) q base p hq
+    (live t (S .kinds) (baseOf t f (depthIn f)) base (registersOf t q) (s .kinds) (s .words) (h .fit .valid) end) hp)
+    (effect-tells g (decodedAt t (S .code) q p) (decoded-good S demanded q p hq hp))
+
+module _ (S : Storage) (demanded : Demanded S) where
+  -- what a run from a running state, with so many instructions left and so many done, answers and leaves
+  data Ran (done left : ℕ) (e : Ended) : Type 0 where
+    spent : e .answer .number ≡ 70 → e .answer .count ≡ done + left → Running S (e .state) → Ran done left e
+    halted : Halts (e .answer .number) → Fit S (e .state) → Ran done left e
+
+  more : (left done : ℕ) (e : Ended) → Ran (done + 1) left e → Ran done (suc left) e
+  more left done e (spent a b c) = spent a (b ∙ (omega arith)) c
+  more left done e (halted a b) = halted a b
+
+  ran-by :
+      (left done : ℕ) (x : Turn) → Stays S x → ((s : State) → Running S s → Ran (done + 1) left (runFrom S left (done + 1) s))
+      → Ran done (suc left)
+      (after x (λ t. runFrom S left (done + 1) t) (λ n t. ended (answerOf n (done + 1) t) t) (λ t. ended (answerOf 60 done t) t))
+  unfolding after answerOf
+  ran-by left done (on s) h ih = more left done _ (ih s h)
+  ran-by left done (stop n s) h ih = halted (h .halts) (h .fit)
+  ran-by left done (fault s) h ih = absurd h
+
+  ran : (left done : ℕ) (s : State) → Running S s → Ran done left (runFrom S left done s)
+  unfolding runFrom answerOf
+  ran zero done s h = spent refl (omega arith) h
+  ran (suc left) done s h = ran-by left done (stepOf S s) (step-stays S s demanded h) (λ t g. ran left (done + 1) t g)
+
+  -- what any run answers and leaves
+  pub record Whole (budget : ℕ) (e : Ended) : Type 0 where
+    pub fit : fitOf S (e .state) ≡ true
+    pub ends : Ends budget (e .answer)
+
+  whole-of : (budget : ℕ) (e : Ended) → Ran 0 budget e → Whole budget e
+  whole-of budget e (spent a b c) = record { fit = facts-fit S (e .state) (c .fit); ends = used a (b ∙ (omega arith)) }
+  whole-of budget e (halted a b) = record { fit = facts-fit S (e .state) b; ends = halts-ends budget (e .answer) (e .answer .number) refl a }
+
+  pub run-whole : (budget : ℕ) (s : State) → fitOf S s ≡ true → Whole budget (runOf S budget s)
+  unfolding runOf standingOf answerOf
+  run-whole budget s fit =
+      let m : ℕ = markIn (s .frames) in
+      let h = fit-facts S s fit in
+      rw fit
+      (cond-cases (Whole budget) (eqb m 70) _ _
+      (λ e. whole-of budget _ (ran budget 0 s (record { fit = h; runs = eqb-true _ _ e })))
+      (λ e. record { fit = fit; ends = halts-ends budget (answerOf m 0 s) m refl (mark-halts m (h .mark) (eqb-false _ _ e)) }))
+
+  -- whatever budgets follow
+  pub after-fit : (bs : List ℕ) (s : State) → fitOf S s ≡ true → fitOf S (afterRuns S bs s) ≡ true
+  unfolding afterRuns
+  after-fit [] s fit = fit
+  after-fit (b ∷ bs) s fit = after-fit bs ((runOf S b s) .state) (run-whole b s fit .fit)

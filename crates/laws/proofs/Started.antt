@@ -1,0 +1,180 @@
+-- A start that is accepted leaves a fit state. Assumes nothing.
+use mathlib.Core.Path.{_≡_, refl, sym, ap, _∙_}
+use mathlib.Core.Bool.{Bool, true, _&&_}
+use mathlib.Core.List.{List}
+use Prim.Native.Nat.{ℕ, _+_, _-_, _<_, _≤_}
+use native.Mathlib.Omega.{arith}
+use borrow.Author.Tests.{ltb-true}
+use lib.Dec.{eqb, leb, ltb}
+use lib.ListN.{length, getD, length-set}
+use lib.Seq.{getD-set-same, getD-set-other}
+use Rattle.storage.specs.Layout.{Storage}
+use Rattle.storage.specs.Fields.{prototypesOf, registersOf, parametersOf, instructionsOf}
+use Rattle.constant.specs.Values.{isValue}
+use Rattle.checker.specs.Check.{checkOf}
+use Rattle.checker.specs.Kept.{Demanded}
+use Rattle.checker.specs.declared.Checked.{Checked}
+use Rattle.checker.specs.declared.Checked.the-variants.{Accepted, Refused}
+use Rattle.checker.proofs.Bools.{and-right, test-cases}
+use Rattle.checker.proofs.Exact.{exact}
+use Rattle.activation.specs.Frames.{markIn, depthIn, prototypeIn, instructionIn, baseOf, markWith, depthWith, openedWith}
+use Rattle.activation.specs.Window.{fewer}
+use Rattle.fitness.specs.Fit.{State, allBelow, stateLong, valueFits, fitOf}
+use Rattle.fitness.proofs.Tests.{and-left, all-at}
+use Rattle.fitness.proofs.Parts.{value-other}
+use Rattle.starter.specs.Start.{argumentFits, permitted, begun, Started, started, checkedStart, startOf}
+use Rattle.laws.specs.Statements.{Begun}
+use Rattle.laws.proofs.Constants.{registers-fit}
+use Rattle.laws.proofs.Windows.{length-first, fewer-left, window-first}
+use Rattle.laws.proofs.Facts.{running-fits, Fit, long-facts, facts-fit}
+use Rattle.laws.proofs.Frames.{length-opened, other-opened, prototype-opened, instruction-opened}
+use Rattle.laws.proofs.Stacks.{base-suc, base-zero, there-of}
+
+-- ---- what an accepted start has found
+
+refused-apart : (n q i : ℕ) (s t : State) → started (Refused n q i) s ≡ started Accepted t → ⊥
+refused-apart n q i s t e =
+    let a : Refused n q i ≡ Accepted = ap (λ (x : Started). x .answer) e in
+    let z : _≡_ {A = ℕ} 0 1 = cc in
+    omega arith
+
+module _ (S : Storage) (argKinds argWords : List ℕ) (s t : State) where
+  record Passed : Type 0 where
+    long : stateLong s ≡ true
+    accepted : checkOf S ≡ Accepted
+    arguments : permitted argKinds argWords ≡ true
+    left : t ≡ begun (S .table) argKinds argWords s
+
+  passed : Begun S argKinds argWords s t → Passed
+  unfolding startOf checkedStart
+  passed e =
+      test-cases (stateLong s) (λ l. by-check l (checkOf S) refl (rw l at e)) (λ l. absurd (refused-apart 5 0 0 s t (rw l at e)))
+    where
+      by-check :
+          stateLong s ≡ true → (c : Checked) → checkOf S ≡ c → checkedStart c (S .table) argKinds argWords s ≡ started Accepted t → Passed
+      by-check l Accepted c e =
+          test-cases (permitted argKinds argWords)
+          (λ p. record { long = l; accepted = c; arguments = p; left = sym (ap (λ (x : Started). x .state) (rw p at e)) })
+          (λ p. absurd (refused-apart 20 0 0 s t (rw p at e)))
+      by-check l (Refused n q i) c e = absurd (refused-apart n q i s t e)
+
+-- ---- arguments
+
+module _ (t c argKinds argWords : List ℕ) where
+  argument-fits : (i : ℕ) → argumentFits argKinds argWords i ≡ true → valueFits t c (getD argKinds i 0) (getD argWords i 0) ≡ true
+  unfolding argumentFits
+  argument-fits i e =
+      let k : ℕ = getD argKinds i 0 in
+      let w : ℕ = getD argWords i 0 in
+      let small : k < 4 = ltb-true _ _ (and-left (ltb k 4) (isValue k w) e) in
+      sym (value-other t c k w (and-right (ltb k 4) (isValue k w) e) (λ z. omega arith) (λ z. omega arith))
+
+  arguments-fit :
+      permitted argKinds argWords ≡ true → (i : ℕ) → i < length argKinds → valueFits t c (getD argKinds i 0) (getD argWords i 0) ≡ true
+  unfolding permitted
+  arguments-fit e i h =
+      let a : Bool = eqb (length argKinds) (length argWords) && leb (length argKinds) 8 in
+      argument-fits i
+      (all-at (argumentFits argKinds argWords) (length argKinds)
+      (and-right a (allBelow (argumentFits argKinds argWords) (length argKinds)) e) i h)
+
+-- ---- the state
+
+module _
+    (S : Storage) (argKinds argWords : List ℕ) (s : State) (demanded : Demanded S) (long : stateLong s ≡ true)
+    (arguments : permitted argKinds argWords ≡ true) where
+  abbrev t : List ℕ
+  t = S .table
+
+  abbrev f1 : List ℕ
+  f1 = markWith 70 (s .frames)
+
+  abbrev f2 : List ℕ
+  f2 = depthWith 1 f1
+
+  abbrev g : List ℕ
+  g = openedWith 0 0 f2
+
+  f1-long : length f1 ≡ length (s .frames)
+  f1-long = length-set (s .frames) 0 70
+
+  f2-long : length f2 ≡ length (s .frames)
+  f2-long = length-set f1 1 1 ∙ f1-long
+
+  lengths : (34 ≤ length (s .frames)) × ((2308 ≤ length (s .kinds)) × (2308 ≤ length (s .words)))
+  lengths = long-facts S s long
+
+  depth : depthIn g ≡ 1
+  depth =
+      let l = lengths .0 in
+      let l1 = f1-long in
+      other-opened f2 0 0 1 (λ e. omega arith) (λ e. omega arith) ∙ getD-set-same f1 1 1 0 (omega arith)
+
+  mark : markIn g ≡ 70
+  mark =
+      let l = lengths .0 in
+      other-opened f2 0 0 0 (λ e. omega arith) (λ e. omega arith) ∙ getD-set-other f1 1 0 1 0 (λ e. omega arith)
+      ∙ getD-set-same (s .frames) 0 70 0 (omega arith)
+
+  prototype : prototypeIn g 0 ≡ 0
+  prototype = let l = lengths .0 in let l2 = f2-long in prototype-opened f2 0 0 (omega arith)
+
+  instruction : instructionIn g 0 ≡ 0
+  instruction = let l = lengths .0 in let l2 = f2-long in instruction-opened f2 0 0 (omega arith)
+
+  some : 0 < prototypesOf t
+  some = omega (arith, demanded .some)
+
+  base : baseOf t g (depthIn g) ≡ registersOf t 0
+  base =
+      ap (λ (n : ℕ). baseOf t g n) depth ∙ base-suc t g 1 0 refl ∙ ap (λ (b : ℕ). b + registersOf t (prototypeIn g 0)) (base-zero t g)
+      ∙ ap (λ (x : ℕ). 0 + registersOf t x) prototype ∙ (omega arith)
+
+  facts : Fit S (begun t argKinds argWords s)
+  unfolding begun
+  facts =
+      let l = lengths .0 in
+      let lk = lengths .1 .0 in
+      let lw = lengths .1 .1 in
+      let l2 = f2-long in
+      let lg = length-opened f2 0 0 in
+      let small = registers-fit S (demanded .reads) 0 some .1 in
+      let n : ℕ = fewer (length argKinds) (parametersOf t 0) in
+      let few : n ≤ length argKinds = fewer-left (length argKinds) (parametersOf t 0) in
+      let more : 0 < instructionsOf t 0 = omega (arith, demanded .each 0 some .some) in
+      record {
+        lent = demanded .long;
+        reads = demanded .reads;
+        kinds-long = rw length-first lk;
+        words-long = rw length-first lw;
+        mark = rw mark running-fits;
+        stack = record {
+          long = omega arith;
+          some = rw depth (omega arith);
+          few = rw depth (omega arith);
+          inside = rw base (omega arith);
+          there = (λ i m.
+              let b : i < 1 = rw depth at m in
+              let z : i ≡ 0 = omega arith in
+              rw z (there-of t g 0 0 0 prototype instruction some more));
+          waits = (λ i m. let b : i < 1 - 1 = rw depth at m in absurd (omega arith));
+        };
+        closed = (λ e. absurd (let z = sym mark ∙ e in omega arith));
+        valid = rw base
+            (window-first t (S .kinds) argKinds argWords n (registersOf t 0) (s .kinds) (s .words) (omega arith) (omega arith)
+            (λ j m. arguments-fit t (S .kinds) argKinds argWords arguments j (omega arith)));
+      }
+
+-- ---- the start
+
+module _ (S : Storage) (argKinds argWords : List ℕ) (s t : State) (e : Begun S argKinds argWords s t) where
+  -- the checker has accepted the image
+  pub begun-demanded : Demanded S
+  begun-demanded = exact S .0 (passed S argKinds argWords s t e .accepted)
+
+  pub begun-fit : fitOf S t ≡ true
+  begun-fit =
+      let p = passed S argKinds argWords s t e in
+      rw (p .left)
+      (facts-fit S (begun (S .table) argKinds argWords s)
+      (facts S argKinds argWords s begun-demanded (p .long) (p .arguments)))

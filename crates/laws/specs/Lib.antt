@@ -1,0 +1,5 @@
+-- The laws' statements, and what they speak of.
+pub mod Statements
+pub mod Session
+pub mod Examples
+pub mod Holds
