@@ -1,0 +1,146 @@
+#!/usr/bin/env python3
+"""Makes the programs of crates/runs, and what real Lua 5.3 answers to each.
+
+    python3 tools/luac/generate.py               writes crates/runs/stdin and crates/runs/stdout
+    python3 tools/luac/generate.py --check       writes nothing, and fails where one of the two would change
+    python3 tools/luac/generate.py --sources D   writes the Lua sources to folder D, one file each, and nothing else
+
+Each program is compiled by luac5.3 and translated by luac_image.py; the real lua5.3 runs its source. The model (model.py) must give the same for
+each, or the script stops. It uses no clock and no random numbers but its own, and gives the same bytes each time."""
+import math
+import os
+import re
+import subprocess
+import sys
+import tempfile
+
+sys.dont_write_bytecode = True
+import luac_image
+import model
+from programs import CASES
+
+HERE = os.path.dirname(os.path.abspath(__file__))
+KEPT = os.path.join(HERE, '..', '..', 'crates', 'runs')
+BUDGET = 1000000
+
+# The number of document 01's table for an error of a Lua operation.
+NUMBERS = {
+    'ADD': 30, 'SUB': 31, 'MUL': 32, 'DIV': 33, 'IDIV': 34, 'MOD': 35, 'UNM': 36, 'BAND': 37, 'BOR': 38, 'BXOR': 39, 'BNOT': 40, 'SHL': 41,
+    'SHR': 42, 'LT': 43, 'LE': 44, 'CALL': 50, 'FORPREP': 31, 'FORLOOP': 30,
+}
+# Lua's messages, and the operations that raise them. Lua looks at all three controls of a loop in FORPREP; document 01 finds a limit that is no
+# number in NumericForLoop.
+ARITHMETIC = ('ADD', 'SUB', 'MUL', 'DIV', 'IDIV', 'MOD', 'UNM')
+BITWISE = ('BAND', 'BOR', 'BXOR', 'SHL', 'SHR', 'BNOT')
+MESSAGES = (
+    ('attempt to perform arithmetic on .*', ARITHMETIC),
+    ('attempt to perform bitwise operation on .*', BITWISE),
+    ('number.* has no integer representation', BITWISE),
+    ('attempt to divide by zero', ('IDIV',)),
+    ("attempt to perform 'n%+0'", ('MOD',)),
+    ('attempt to compare .*', ('LT', 'LE')),
+    ('attempt to call .*', ('CALL',)),
+    ("'for' initial value must be a number", ('FORPREP',)),
+    ("'for' step must be a number", ('FORPREP',)),
+    ("'for' limit must be a number", ('FORLOOP',)),
+)
+
+
+def found(program, case, line, operations):
+    """The one instruction of these operations at a source line: its name and place."""
+    places = []
+    for q, function in enumerate(program.functions):
+        for p, word in enumerate(function.code):
+            name = luac_image.operation(word)
+            if function.lines[p] == line and name in operations:
+                places.append((name, q, p))
+    if len(places) != 1:
+        raise SystemExit('%s: line %d has %d instructions of %s\n%s' % (case.name, line, len(places), ', '.join(operations), case.source))
+    return places[0]
+
+
+def expected(program, case, said):
+    """What must be written: Lua's answer, in document 01's numbers."""
+    if case.paper:
+        number, line = case.paper
+        _, q, p = found(program, case, line, ('CALL',))
+        return '%d %d %d' % (number, q, p)
+    what, _, rest = said.partition(' ')
+    if what == 'ok':
+        return ' '.join(['0'] + rest.split())
+    line, _, message = rest.partition(' ')
+    for pattern, operations in MESSAGES:
+        if re.fullmatch(pattern, message):
+            name, q, p = found(program, case, int(line), operations)
+            return '%d %d %d' % (NUMBERS[name], q, p)
+    raise SystemExit('an error that no operation here raises: ' + rest)
+
+
+def modelled(image):
+    """What the model answers, in the same form."""
+    m = model.Machine()
+    if m.read(image)[0] or m.start()[0]:
+        return 'refused'
+    number, _, q, p = m.run(BUDGET)
+    if number:
+        return '%d %d %d' % (number, q, p)
+    return ' '.join(['0'] + [one_nan(m.shown(value)) for value in m.returned()])
+
+
+def one_nan(shown):
+    return 'b0037ff8000000000000' if shown.startswith('b003') and math.isnan(model.double(int(shown[4:], 16))) else shown
+
+
+def main():
+    names = [case.name for case in CASES]
+    assert len(set(names)) == len(names)
+    if sys.argv[1:2] == ['--sources']:
+        folder = sys.argv[2]
+        os.makedirs(folder, exist_ok=True)
+        for i, case in enumerate(CASES):
+            with open(os.path.join(folder, '%d.lua' % (i + 1)), 'w') as file:
+                file.write('-- %s\n' % case.name + case.source)
+        return
+    with tempfile.TemporaryDirectory() as folder:
+        programs = []
+        for i, case in enumerate(CASES):
+            path = os.path.join(folder, '%d.lua' % (i + 1))
+            with open(path, 'w') as file:
+                file.write(case.source)
+            try:
+                programs.append(luac_image.translate(path))
+            except luac_image.Refused as refusal:
+                raise SystemExit('%s: refused: %s\n%s' % (case.name, refusal, case.source))
+        lua = subprocess.run(['lua5.3', os.path.join(HERE, 'run.lua'), folder, str(len(CASES))], stdout=subprocess.PIPE, check=True,
+                             universal_newlines=True).stdout.splitlines()
+    assert len(lua) == len(CASES)
+    images, answers, finished, raised, wrong = [], [], 0, 0, 0
+    for case, program, said in zip(CASES, programs, lua):
+        wants = expected(program, case, said)
+        has = modelled(program.image)
+        if has != wants:
+            wrong += 1
+            print('%s\n%s  Lua:   %s\n  wants: %s\n  model: %s\n' % (case.name, case.source, said, wants, has))
+        images.append('# %s\n%s' % (case.name, program.image))
+        answers.append('# %s\n%s\n' % (case.name, wants))
+        finished += wants.startswith('0')
+        raised += not wants.startswith('0')
+    if wrong:
+        raise SystemExit('%d of %d differ from the model' % (wrong, len(CASES)))
+    answers.append('%d programs: %d returned, %d raised an error\n' % (len(CASES), finished, raised))
+    files = {'stdin': ''.join(images), 'stdout': ''.join(answers)}
+    for name, text in files.items():
+        path = os.path.join(KEPT, name)
+        if sys.argv[1:] == ['--check']:
+            with open(path) as file:
+                if file.read() != text:
+                    raise SystemExit(path + ' would change')
+        else:
+            os.makedirs(KEPT, exist_ok=True)
+            with open(path, 'w') as file:
+                file.write(text)
+    print(answers[-1], end='')
+
+
+if __name__ == '__main__':
+    main()
