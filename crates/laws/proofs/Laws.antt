@@ -1,6 +1,8 @@
 -- Demands 2 and 3 on one page: a proof of each statement of specs/Statements. Assumes nothing.
+use mathlib.Core.Path.{_≡_}
 use Rattle.writer.proofs.RoundTrip as writer
 use Rattle.checker.proofs.Exact as checker
+use Rattle.worked.specs.Worked as claim
 use Rattle.laws.specs.Statements as statements
 use Rattle.laws.specs.Statements.{afterRuns}
 use Rattle.laws.specs.Session.{SessionStarts}
@@ -49,6 +51,11 @@ split-any = splits.split-any
 
 pub counted : statements.CountsSteps
 counted = counts.counted
+
+-- ---- W1 to W13, one claim about one list
+
+pub worked : claim.defined ≡ claim.answers
+worked = claim.worked
 
 -- ---- the hypotheses can be met: the session of 01 is read, accepted and started
 

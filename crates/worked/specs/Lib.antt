@@ -1,2 +1,3 @@
 -- Document 01's worked examples.
+pub mod Thirteen
 pub mod Worked

@@ -1,4 +1,4 @@
--- `worked::example` meets its contract: what each operator ensures is an entry of `defined`, and `worked` says what that is. Assumes nothing.
+-- `worked::example` meets its contract: what each operator and each run ensures is an entry of `defined`, and `worked` says what that is. Assumes nothing.
 use mathlib.Core.Path.{_≡_, sym, ap, _∙_}
 use Prim.Native.Nat.{ℕ, _+_, _≤_}
 use native.Mathlib.Omega.{arith}
@@ -6,8 +6,9 @@ use lib.Ieee.{ofBits}
 use lib.ListN.{getD, List·getD-eq-default}
 use mathlib.Core.List.{List}
 use Rattle.worked.specs.Worked.{defined, answers, worked}
+use Rattle.worked.specs.declared.Ran.{Ran}
 use Rattle.worked.specs.declared.Told.{Told}
-use Rattle.worked.specs.declared.Told.the-variants.{Operator, Number, Equal, Integer, Nothing}
+use Rattle.worked.specs.declared.Told.the-variants.{Operator, Number, Equal, Integer, Run, Register, Nothing}
 use borrow.Author.Needs.{needs}
 use Rattle.worked.proofs.example.Statement.{statement}
 use Rattle.worked.proofs.example.Tie as tie
@@ -15,9 +16,9 @@ use Rattle.worked.proofs.example.Tie as tie
 at : (n : ℕ) → getD defined n Nothing ≡ getD answers n Nothing
 at n = ap (λ (l : List Told). getD l n Nothing) worked
 
--- a number that is none of six is past them
-past : (k n : ℕ) → k ≤ n → (n ≡ k → ⊥) → (n ≡ k + 1 → ⊥) → (n ≡ k + 2 → ⊥) → (n ≡ k + 3 → ⊥) → (n ≡ k + 4 → ⊥) → (n ≡ k + 5 → ⊥) → k + 6 ≤ n
-past k n h a b c d e f = omega arith
+-- a number that is none of four is past them
+past : (k n : ℕ) → k ≤ n → (n ≡ k → ⊥) → (n ≡ k + 1 → ⊥) → (n ≡ k + 2 → ⊥) → (n ≡ k + 3 → ⊥) → k + 4 ≤ n
+past k n h a b c d = omega arith
 
 returns : tie.Need-returns
 returns c = rw (c .before .match .keys1) (ap Operator (c .floor-divide .ensures) ∙ at 0)
@@ -58,13 +59,29 @@ returns-12 : tie.Need-returns-12
 returns-12 c = rw (c .before .match .keys12) (ap Operator (c .shift-left2 .ensures) ∙ at 11)
 
 returns-13 : tie.Need-returns-13
-returns-13 c =
+returns-13 c = rw (c .before .before .match .keys13) (ap (λ (r : Ran). Run (r .answer)) (c .before .run-thirteen .ensures) ∙ at 12)
+
+returns-14 : tie.Need-returns-14
+returns-14 c = rw (c .before .before .match .keys14) (ap (λ (r : Ran). Run (r .answer)) (c .before .run-thirteen2 .ensures) ∙ at 13)
+
+returns-15 : tie.Need-returns-15
+returns-15 c = rw (c .before .match .keys15) (ap (λ (r : Ran). Register (r .first)) (c .run-thirteen3 .ensures) ∙ at 14)
+
+returns-16 : tie.Need-returns-16
+returns-16 c = rw (c .before .match .keys16) (ap (λ (r : Ran). Register (r .fourth)) (c .run-thirteen4 .ensures) ∙ at 15)
+
+returns-17 : tie.Need-returns-17
+returns-17 c =
     let n = c .before .args .n in
     let r = c .match .rest in
-    let s = r .0 .0 .0 .0 .0 .0 in
-    let low = past 0 n (omega arith) (s .0 .0 .0 .0 .0 .1) (s .0 .0 .0 .0 .1) (s .0 .0 .0 .1) (s .0 .0 .1) (s .0 .1) (s .1) in
-    let high = past 6 n low (r .0 .0 .0 .0 .0 .1) (r .0 .0 .0 .0 .1) (r .0 .0 .0 .1) (r .0 .0 .1) (r .0 .1) (r .1) in
-    sym (List·getD-eq-default answers Nothing high)
+    let s = r .0 .0 .0 .0 in
+    let t = s .0 .0 .0 .0 in
+    let u = t .0 .0 .0 .0 in
+    let four = past 0 n (omega arith) (u .0 .0 .0 .1) (u .0 .0 .1) (u .0 .1) (u .1) in
+    let eight = past 4 n four (t .0 .0 .0 .1) (t .0 .0 .1) (t .0 .1) (t .1) in
+    let twelve = past 8 n eight (s .0 .0 .0 .1) (s .0 .0 .1) (s .0 .1) (s .1) in
+    let all = past 12 n twelve (r .0 .0 .0 .1) (r .0 .0 .1) (r .0 .1) (r .1) in
+    sym (List·getD-eq-default answers Nothing all)
 
 pub example-spec : {M : Type 1} → statement M
 example-spec =
@@ -72,5 +89,6 @@ example-spec =
     (tie.spec
     (λ c κs. search needs) (λ c κs. search needs) (λ c κs. search needs) (λ c κs. search needs) (λ c κs. search needs) (λ c κs. search needs)
     (λ c κs. search needs) (λ c. search needs) (λ c. search needs) (λ c κs. search needs) (λ c κs. search needs) (λ c κs. search needs)
-    (λ c κs. search needs) (λ c κs. search needs)
-    returns returns-2 returns-3 returns-4 returns-5 returns-6 returns-7 returns-8 returns-9 returns-10 returns-11 returns-12 returns-13)
+    (λ c κs. search needs) (λ c κs. search needs) (λ c κs. search needs) (λ c κs. search needs) (λ c κs. search needs) (λ c κs. search needs)
+    returns returns-2 returns-3 returns-4 returns-5 returns-6 returns-7 returns-8 returns-9 returns-10 returns-11 returns-12 returns-13
+    returns-14 returns-15 returns-16 returns-17)

@@ -1,21 +1,21 @@
--- `worked::main` meets its contract: the loop counts to 12. Assumes nothing.
+-- `show::main` meets its contract: the loop counts to 16. Assumes nothing.
 use Prim.Native.Nat.{_-_, _≤_}
 use native.Mathlib.Omega.{arith}
 use borrow.Author.Needs.{needs}
-use Rattle.worked.proofs.main.Statement.{statement}
-use Rattle.worked.proofs.main.Tie as tie
+use Rattle.show.proofs.main.Statement.{statement}
+use Rattle.show.proofs.main.Tie as tie
 
 abbrev Inv-loop : tie.InvT-loop
-Inv-loop n₀ n = n ≤ 12
+Inv-loop n₀ n = n ≤ 16
 
 abbrev μ-loop : tie.MeasureT-loop
-μ-loop n₀ n = 12 - n
+μ-loop n₀ n = 16 - n
 
 loop-holds : tie.Need-loop-holds Inv-loop μ-loop
 loop-holds c = omega arith
 
-add-write-line : tie.Need-add-write-line Inv-loop μ-loop
-add-write-line c = omega arith
+number-of-requires : tie.Need-number-of-requires Inv-loop μ-loop
+number-of-requires c κs = search needs
 
 example-requires : tie.Need-example-requires Inv-loop μ-loop
 example-requires c κs = search needs
@@ -38,4 +38,4 @@ returns c = search needs
 pub main-spec : {M : Type 1} → statement M
 main-spec =
     tie.close
-    (tie.spec Inv-loop μ-loop loop-holds add-write-line example-requires write-line-requires add-n loop-less loop-again returns)
+    (tie.spec Inv-loop μ-loop loop-holds number-of-requires example-requires write-line-requires add-n loop-less loop-again returns)
