@@ -1,0 +1,571 @@
+// Replays outside cases of starting and running: images, changes of the storage and of the state, arguments and budgets,
+// on standard input. After each start and each run it writes the answer, and then every cell of the state that is
+// another than before. tools/states/cases.py makes the list, and by a machine of its own what must be written.
+//
+// A line of the list is one of (numbers are hexadecimal)
+//   # words                a case's name, written as it is; every cell of the storage becomes 0, of the state 5a
+//   a0.. b0.. c0.. e0..    a line of the case's image
+//   <                      the image is read
+//   =f1:2                  cell 1 of the frames becomes 2 (t table, c code, k and w kinds and words of constants, x texts,
+//                          f frames, r and v kinds and words of registers)
+//   0                      every cell of the state becomes 0
+//   >11111111:12..         a start; each of the eight slices is one cell short (0), as published (1) or one longer (2);
+//                          one kind and two words of arguments are lent; then each argument's kind and word, 2 and 16 digits
+//   !11111111:00000005     a run on budget 5
+//   ?11111111              how the machine stands
+use checker::Checked;
+use image::Judged;
+use vm::Outcome;
+ghost use Prim.Native.Nat.{_≤_};
+ghost use lib.ListN.{length};
+
+// ---- what is written
+
+fn print(x: u64) {
+    io::write_all(1, b" ");
+    io::print_decimal(1, x);
+}
+
+fn print_started(r: Checked) {
+    io::write_all(1, b">");
+    match r {
+        Checked::Accepted => print(0),
+        Checked::Refused(n, q, i) => {
+            print(n as u64);
+            print(q as u64);
+            print(i as u64);
+        }
+    }
+}
+
+fn print_outcome(o: Outcome) {
+    print(o.number as u64);
+    print(o.count as u64);
+    print(o.prototype as u64);
+    print(o.instruction as u64);
+}
+
+// A cell that is another than before: its slice, place and content.
+fn print_cell(slice: &[u8], i: usize, was: u64, is: u64) {
+    if was == is {
+        return;
+    }
+    io::write_all(1, slice);
+    io::print_hex(1, i as u64, 1);
+    io::write_all(1, b":");
+    io::print_hex(1, is, 1);
+}
+
+fn print_words(slice: &[u8], was: &[u64], is: &[u64]) {
+    let mut i = 0;
+    while i < is.len() {
+        print_cell(slice, i, slices::word_at(was, 0, i), is[i]);
+        i += 1;
+    }
+}
+
+fn wide(b: u8) -> u64 {
+    b as u64
+}
+
+fn print_bytes(slice: &[u8], was: &[u8], is: &[u8]) {
+    let mut i = 0;
+    while i < is.len() {
+        print_cell(slice, i, wide(slices::byte_at(was, 0, i)), wide(is[i]));
+        i += 1;
+    }
+}
+
+// ---- a line of the list
+
+// A hexadecimal digit's value.
+fn hex(b: u8) -> u64
+    ensures { λ r. ⌜ r ≤ 15 ⌝ }
+{
+    let low = (b % 16) as u64;
+    if b < b'a' {
+        return low;
+    }
+    (low + 9) % 16
+}
+
+// The number that the n digits from `at` on say.
+fn number_at(line: &[u8], at: usize, n: usize) -> u64 {
+    let mut v: u64 = 0;
+    let mut i = 0;
+    while i < n {
+        let d = hex(slices::byte_at(line, at, i));
+        v = (v % 0x1000_0000_0000_0000) * 16 + d;
+        i += 1;
+    }
+    v
+}
+
+// How many of the n cells of a slice are lent: two fewer, one fewer or all of them, as digit i of a line has it.
+fn lent(line: &[u8], i: usize, n: usize) -> usize
+    ensures { λ r. ⌜ r ≤ n ⌝ }
+{
+    let fewer = 2 - (slices::byte_at(line, 0, i) % 3) as usize;
+    if n < fewer {
+        return n;
+    }
+    n - fewer
+}
+
+// How many of the n arguments' kinds or words are lent, as digit i of a line has it.
+fn count_at(line: &[u8], i: usize, n: usize) -> usize
+    ensures { λ r. ⌜ r ≤ n ⌝ }
+{
+    let count = hex(slices::byte_at(line, 0, i)) as usize;
+    if n < count {
+        return n;
+    }
+    count
+}
+
+// Where the first byte b at or after `at` stands; the length where there is none.
+fn find(s: &[u8], at: usize, b: u8) -> usize
+    requires { ⌜ at ≤ length (now s) ⌝ }
+    ensures { λ r. ⌜ (at ≤ r) × (r ≤ length (now (s .entry))) ⌝ }
+{
+    let mut i = at;
+    while i < s.len() {
+        if s[i] == b {
+            return i;
+        }
+        i += 1;
+    }
+    i
+}
+
+// ---- changes
+
+// Cell i of the slice that a letter names becomes v.
+fn put(
+    slice: u8,
+    i: usize,
+    v: u64,
+    table: &mut [u64],
+    code: &mut [u64],
+    const_kinds: &mut [u8],
+    const_words: &mut [u64],
+    texts: &mut [u8],
+    frames: &mut [u64],
+    kinds: &mut [u8],
+    words: &mut [u64],
+) {
+    let b = (v % 256) as u8;
+    match slice {
+        b't' => slices::put_word(table, 0, i, v),
+        b'c' => slices::put_word(code, 0, i, v),
+        b'k' => slices::put_byte(const_kinds, 0, i, b),
+        b'w' => slices::put_word(const_words, 0, i, v),
+        b'x' => slices::put_byte(texts, 0, i, b),
+        b'f' => slices::put_word(frames, 0, i, v),
+        b'r' => slices::put_byte(kinds, 0, i, b),
+        _ => slices::put_word(words, 0, i, v),
+    }
+}
+
+fn change(
+    line: &[u8],
+    table: &mut [u64],
+    code: &mut [u64],
+    const_kinds: &mut [u8],
+    const_words: &mut [u64],
+    texts: &mut [u8],
+    frames: &mut [u64],
+    kinds: &mut [u8],
+    words: &mut [u64],
+) {
+    let colon = find(line, 0, b':');
+    if colon < 2 {
+        return;
+    }
+    if line.len() <= colon {
+        return;
+    }
+    let first = colon + 1;
+    let i = number_at(line, 2, colon - 2) as usize;
+    let v = number_at(line, first, line.len() - first);
+    put(
+        slices::byte_at(line, 0, 1),
+        i,
+        v,
+        table,
+        code,
+        const_kinds,
+        const_words,
+        texts,
+        frames,
+        kinds,
+        words,
+    );
+}
+
+fn clear(frames: &mut [u64], kinds: &mut [u8], words: &mut [u64]) {
+    slices::fill_words(frames, 0, frames.len(), 0);
+    slices::fill_bytes(kinds, 0, kinds.len(), 0);
+    slices::fill_words(words, 0, words.len(), 0);
+}
+
+// ---- answers
+
+// The arguments that a line says.
+fn take_arguments(line: &[u8], kinds: &mut [u8], words: &mut [u64]) {
+    let mut i = 0;
+    while i < 15 {
+        let at = 12 + 18 * i;
+        let k = (number_at(line, at, 2) % 256) as u8;
+        slices::put_byte(kinds, 0, i, k);
+        slices::put_word(words, 0, i, number_at(line, at + 2, 16));
+        i += 1;
+    }
+}
+
+fn start_with(
+    line: &[u8],
+    table: &[u64],
+    code: &[u64],
+    const_kinds: &[u8],
+    const_words: &[u64],
+    texts: &[u8],
+    frames: &mut [u64],
+    kinds: &mut [u8],
+    words: &mut [u64],
+    arg_kinds: &[u8],
+    arg_words: &[u64],
+) {
+    let a = lent(line, 1, table.len());
+    let b = lent(line, 2, code.len());
+    let c = lent(line, 3, const_kinds.len());
+    let d = lent(line, 4, const_words.len());
+    let e = lent(line, 5, texts.len());
+    let f = lent(line, 6, frames.len());
+    let g = lent(line, 7, kinds.len());
+    let h = lent(line, 8, words.len());
+    let n = count_at(line, 10, arg_kinds.len());
+    let m = count_at(line, 11, arg_words.len());
+    let r = starter::start(
+        &table[..a],
+        &code[..b],
+        &const_kinds[..c],
+        &const_words[..d],
+        &texts[..e],
+        &mut frames[..f],
+        &mut kinds[..g],
+        &mut words[..h],
+        &arg_kinds[..n],
+        &arg_words[..m],
+    );
+    print_started(r);
+}
+
+fn start(
+    line: &[u8],
+    table: &[u64],
+    code: &[u64],
+    const_kinds: &[u8],
+    const_words: &[u64],
+    texts: &[u8],
+    frames: &mut [u64],
+    kinds: &mut [u8],
+    words: &mut [u64],
+) {
+    let mut arg_kinds = [0u8; 15];
+    let mut arg_words = [0u64; 15];
+    take_arguments(line, &mut arg_kinds, &mut arg_words);
+    start_with(
+        line,
+        table,
+        code,
+        const_kinds,
+        const_words,
+        texts,
+        frames,
+        kinds,
+        words,
+        &arg_kinds,
+        &arg_words,
+    );
+}
+
+fn run(
+    line: &[u8],
+    table: &[u64],
+    code: &[u64],
+    const_kinds: &[u8],
+    const_words: &[u64],
+    texts: &[u8],
+    frames: &mut [u64],
+    kinds: &mut [u8],
+    words: &mut [u64],
+) {
+    let budget = (number_at(line, 10, 8) % 0x1_0000_0000) as u32;
+    let a = lent(line, 1, table.len());
+    let b = lent(line, 2, code.len());
+    let c = lent(line, 3, const_kinds.len());
+    let d = lent(line, 4, const_words.len());
+    let e = lent(line, 5, texts.len());
+    let f = lent(line, 6, frames.len());
+    let g = lent(line, 7, kinds.len());
+    let h = lent(line, 8, words.len());
+    let o = vm::run(
+        &table[..a],
+        &code[..b],
+        &const_kinds[..c],
+        &const_words[..d],
+        &texts[..e],
+        &mut frames[..f],
+        &mut kinds[..g],
+        &mut words[..h],
+        budget,
+    );
+    io::write_all(1, b"!");
+    print_outcome(o);
+}
+
+fn stand(
+    line: &[u8],
+    table: &[u64],
+    code: &[u64],
+    const_kinds: &[u8],
+    const_words: &[u64],
+    texts: &[u8],
+    frames: &[u64],
+    kinds: &[u8],
+    words: &[u64],
+) {
+    let a = lent(line, 1, table.len());
+    let b = lent(line, 2, code.len());
+    let c = lent(line, 3, const_kinds.len());
+    let d = lent(line, 4, const_words.len());
+    let e = lent(line, 5, texts.len());
+    let f = lent(line, 6, frames.len());
+    let g = lent(line, 7, kinds.len());
+    let h = lent(line, 8, words.len());
+    let o = vm::standing(
+        &table[..a],
+        &code[..b],
+        &const_kinds[..c],
+        &const_words[..d],
+        &texts[..e],
+        &frames[..f],
+        &kinds[..g],
+        &words[..h],
+    );
+    io::write_all(1, b"?");
+    print_outcome(o);
+}
+
+// ---- a case
+
+fn act(
+    line: &[u8],
+    table: &[u64],
+    code: &[u64],
+    const_kinds: &[u8],
+    const_words: &[u64],
+    texts: &[u8],
+    frames: &mut [u64],
+    kinds: &mut [u8],
+    words: &mut [u64],
+) {
+    match slices::byte_at(line, 0, 0) {
+        b'>' => start(
+            line,
+            table,
+            code,
+            const_kinds,
+            const_words,
+            texts,
+            frames,
+            kinds,
+            words,
+        ),
+        b'!' => run(
+            line,
+            table,
+            code,
+            const_kinds,
+            const_words,
+            texts,
+            frames,
+            kinds,
+            words,
+        ),
+        _ => stand(
+            line,
+            table,
+            code,
+            const_kinds,
+            const_words,
+            texts,
+            frames,
+            kinds,
+            words,
+        ),
+    }
+}
+
+// A start or a run, and what it changes.
+fn answer(
+    line: &[u8],
+    table: &[u64],
+    code: &[u64],
+    const_kinds: &[u8],
+    const_words: &[u64],
+    texts: &[u8],
+    frames: &mut [u64],
+    kinds: &mut [u8],
+    words: &mut [u64],
+) {
+    let mut was_frames = [0u64; 35];
+    let mut was_kinds = [0u8; 2309];
+    let mut was_words = [0u64; 2309];
+    slices::take_words(frames, 0, &mut was_frames, 0, 35);
+    slices::take_bytes(kinds, 0, &mut was_kinds, 0, 2309);
+    slices::take_words(words, 0, &mut was_words, 0, 2309);
+    act(
+        line,
+        table,
+        code,
+        const_kinds,
+        const_words,
+        texts,
+        frames,
+        kinds,
+        words,
+    );
+    print_words(b" f", &was_frames, frames);
+    print_bytes(b" r", &was_kinds, kinds);
+    print_words(b" v", &was_words, words);
+    io::write_all(1, b"\n");
+}
+
+fn play_line(
+    line: &[u8],
+    table: &mut [u64],
+    code: &mut [u64],
+    const_kinds: &mut [u8],
+    const_words: &mut [u64],
+    texts: &mut [u8],
+    frames: &mut [u64],
+    kinds: &mut [u8],
+    words: &mut [u64],
+) {
+    match slices::byte_at(line, 0, 0) {
+        b'<' => {}
+        b'=' => change(
+            line,
+            table,
+            code,
+            const_kinds,
+            const_words,
+            texts,
+            frames,
+            kinds,
+            words,
+        ),
+        b'0' => clear(frames, kinds, words),
+        _ => answer(
+            line,
+            table,
+            code,
+            const_kinds,
+            const_words,
+            texts,
+            frames,
+            kinds,
+            words,
+        ),
+    }
+}
+
+fn play_lines(
+    s: &[u8],
+    table: &mut [u64],
+    code: &mut [u64],
+    const_kinds: &mut [u8],
+    const_words: &mut [u64],
+    texts: &mut [u8],
+    frames: &mut [u64],
+    kinds: &mut [u8],
+    words: &mut [u64],
+) {
+    let mut at = 0;
+    while at < s.len() {
+        let e = find(s, at, b'\n');
+        play_line(
+            &s[at..e],
+            table,
+            code,
+            const_kinds,
+            const_words,
+            texts,
+            frames,
+            kinds,
+            words,
+        );
+        at = e + 1;
+    }
+}
+
+// A case: its name, its image, and the lines after it. Every slice is one cell longer than published.
+fn play_case(s: &[u8]) {
+    let mut table = [0u64; 134];
+    let mut code = [0u64; 5042];
+    let mut const_kinds = [0u8; 8449];
+    let mut const_words = [0u64; 8449];
+    let mut texts = [0u8; 32769];
+    let mut frames = [0x5a5a_5a5a_5a5a_5a5au64; 35];
+    let mut kinds = [0x5au8; 2309];
+    let mut words = [0x5a5a_5a5a_5a5a_5a5au64; 2309];
+    let n = find(s, 0, b'\n');
+    if s.len() <= n {
+        return;
+    }
+    let first = n + 1;
+    io::write_all(1, &s[..first]);
+    let m = find(s, first, b'<');
+    let r = reader::read(
+        &s[first..m],
+        &mut table,
+        &mut code,
+        &mut const_kinds,
+        &mut const_words,
+        &mut texts,
+    );
+    if let Judged::Refused(_, _) = r {
+        io::write_all(1, b"not read\n");
+        return;
+    }
+    play_lines(
+        &s[m..],
+        &mut table,
+        &mut code,
+        &mut const_kinds,
+        &mut const_words,
+        &mut texts,
+        &mut frames,
+        &mut kinds,
+        &mut words,
+    );
+}
+
+// ---- the list
+
+fn play(s: &[u8]) {
+    let mut at = 0;
+    while at < s.len() {
+        let e = find(s, at + 1, b'#');
+        play_case(&s[at..e]);
+        at = e;
+    }
+}
+
+fn main() {
+    let mut list = [0u8; 524288];
+    let n = io::read_full(0, &mut list);
+    play(&list[..n]);
+}

@@ -1,0 +1,1068 @@
+#!/usr/bin/env python3
+"""Cases of starting and running, and what must be answered and left: crates/states/stdin and stdout.
+
+Every answer is written by hand beside its case or follows from a rule that is; the machine of tools/luac/model.py, which was written from
+document 01 and shares nothing with the proved one, must agree with it, or the script stops. What is left comes from that machine alone.
+"""
+import os
+import struct
+import sys
+
+sys.dont_write_bytecode = True
+HERE = os.path.dirname(os.path.abspath(__file__))
+sys.path.insert(0, os.path.join(HERE, '..', 'luac'))
+import model  # noqa: E402
+
+LIST = []
+ANSWERS = []
+RUNS = [0]
+
+SLICES = dict(t='table', c='code', k='const_kinds', w='const_words', x='texts', f='frames', r='kinds', v='words')
+STATE = 'frv'
+FILL = dict(t=0, c=0, k=0, w=0, x=0, f=0x5a5a5a5a5a5a5a5a, r=0x5a, v=0x5a5a5a5a5a5a5a5a)
+ALL = '1' * 8
+MOST = 2**64 - 1
+
+
+# ---- values and constants
+
+def i(n):
+    return 2, n % 2**64
+
+
+def f(x):
+    return 3, int.from_bytes(struct.pack('>d', x), 'big')
+
+
+def bits(word):
+    return 3, word
+
+
+def s(constant):
+    return 4, constant
+
+
+def fn(prototype):
+    return 5, prototype
+
+
+NIL, FALSE, TRUE = (0, 0), (1, 0), (1, 1)
+SMALLEST, LARGEST = -2**63, 2**63 - 1
+NAN = bits(0x7ff8000000000000)
+OTHER_NAN = bits(0xfff0000000000123)
+INF = float('inf')
+
+
+def const(value):
+    """A constant of an image: a value, or a text."""
+    if isinstance(value, bytes):
+        return b'\4' + value
+    kind, word = value
+    return bytes([kind]) + word.to_bytes({0: 0, 1: 1, 2: 8, 3: 8}[kind], 'big')
+
+
+# ---- instructions and prototypes
+
+def op(name, *operands, flags=0):
+    """An instruction's five bytes; an index or an offset is one operand."""
+    number = model.NUMBER_OF[name] if isinstance(name, str) else name
+    operands = list(operands)
+    if name == 'Jump':
+        operands.insert(0, 255)
+    if name in ('Jump', 'LoadConstant', 'NumericForPrep', 'NumericForLoop'):
+        wide = operands.pop() % 65536
+        operands += [wide // 256, wide % 256]
+    return (number, flags, *operands, *[0] * (3 - len(operands)))
+
+
+def proto(registers, parameters, constants, code):
+    return registers, parameters, [const(value) for value in constants], code
+
+
+def encoded(five):
+    operation, flags, a, b, c = five
+    return flags // 4 << 34 | operation << 26 | flags % 4 << 24 | a << 16 | b << 8 | c
+
+
+RETURN = op('Return', 0, 0)
+
+
+# ---- a case
+
+class Case:
+    def __init__(self, name, protos):
+        self.machine = model.Machine()
+        for letter, slice in SLICES.items():
+            setattr(self.machine, slice, [FILL[letter]] * (model.SIZES[slice] + 1))
+        image = model.printed(protos)
+        assert '#' not in name
+        LIST.append('# %s\n%s<\n' % (name, image))
+        ANSWERS.append('# %s\n' % name)
+        assert self.with_lent(ALL, lambda m: m.read(image)) == (0, len(protos)), name
+        self.name = name
+
+    def with_lent(self, lend, act):
+        """Acts on the slices as they are lent: one cell short (0), as published (1), or one longer (2)."""
+        m = self.machine
+        whole = {slice: getattr(m, slice) for slice in SLICES.values()}
+        for digit, (slice, cells) in zip(lend, whole.items()):
+            setattr(m, slice, cells[:model.SIZES[slice] - 1 + int(digit)])
+        answer = act(m)
+        for slice, cells in whole.items():
+            part = getattr(m, slice)
+            cells[:len(part)] = part
+            setattr(m, slice, cells)
+        return answer
+
+    def answered(self, sign, line, expected, lend, act):
+        """A start or a run: its answer and every cell of the state that is another than before."""
+        before = {letter: list(getattr(self.machine, SLICES[letter])) for letter in STATE}
+        got = self.with_lent(lend, act)
+        assert expected is None or got == expected, (self.name, line, got, expected)
+        LIST.append(line + '\n')
+        words = [sign] + ['%d' % x for x in got]
+        for letter in STATE:
+            now = getattr(self.machine, SLICES[letter])
+            words += ['%s%x:%x' % (letter, at, x) for at, x in enumerate(now) if x != before[letter][at]]
+        ANSWERS.append(' '.join(words) + '\n')
+        RUNS[0] += 1
+        return got
+
+    def set(self, letter, at, value):
+        LIST.append('=%s%x:%x\n' % (letter, at, value))
+        cells = getattr(self.machine, SLICES[letter])
+        old, cells[at] = cells[at], value
+        return letter, at, old
+
+    def clear(self):
+        """Every cell of the state becomes 0: all registers nil."""
+        LIST.append('0\n')
+        for letter in STATE:
+            slice = SLICES[letter]
+            setattr(self.machine, slice, [0] * len(getattr(self.machine, slice)))
+
+    def at(self, *places, mark=70):
+        """The mark and the activations."""
+        cells = [mark, len(places)] + [x for place in places for x in place]
+        for at, x in enumerate(cells):
+            if self.machine.frames[at] != x:
+                self.set('f', at, x)
+
+    def put(self, *values, first=0):
+        """Registers from `first` on."""
+        for at, (kind, word) in enumerate(values, first):
+            if self.machine.kinds[at] != kind:
+                self.set('r', at, kind)
+            if self.machine.words[at] != word:
+                self.set('v', at, word)
+
+    def start(self, expected, *arguments, lend=ALL, kinds=None, words=None):
+        """kinds, words: how many are lent, where not as many as there are arguments."""
+        n = len(arguments) if kinds is None else kinds
+        m = len(arguments) if words is None else words
+        line = '>%s:%x%x' % (lend, n, m) + ''.join('%02x%016x' % argument for argument in arguments)
+        # Where a kind or a word is missing there is no value.
+        seen = list(arguments[:min(n, m)]) + [(255, 0)] * abs(n - m)
+
+        def act(machine):
+            number, q, p = machine.start(seen)
+            return (number, q, p) if number else (0,)
+        self.answered('>', line, (0,) if expected == 0 else expected, lend, act)
+
+    def run(self, budget, *expected, lend=ALL):
+        return self.answered('!', '!%s:%08x' % (lend, budget), expected or None, lend, lambda m: m.run(budget))
+
+    def stands(self, *expected, lend=ALL):
+        return self.answered('?', '?%s' % lend, expected, lend, lambda m: m.run(0))
+
+
+# ---- starts
+
+def starts():
+    four = [proto(4, 2, [], [op('Return', 0, 4)])]
+    for parameters in (0, 2, 4):
+        case = Case('start: %d parameters of 4 registers, 0 to 9 arguments' % parameters, [proto(4, parameters, [], [op('Return', 0, 4)])])
+        for n in range(9):
+            case.start(0, *[i(16 + k) for k in range(n)])
+        case.start((20, 0, 0), *[i(16 + k) for k in range(9)])
+        case.run(1, 0, 1, 0, 0)
+    case = Case('start: 255 registers, all of them parameters, 8 arguments', [proto(255, 255, [], [op('Return', 0, 0)])])
+    case.start(0, *[i(1)] * 8)
+    case.run(1, 0, 1, 0, 0)
+    case = Case('start: one register, no parameter', [proto(1, 0, [], [op('Return', 0, 1)])])
+    case.start(0, i(5))
+    case.run(1, 0, 1, 0, 0)
+    case = Case('start: arguments of every kind that may be', [proto(8, 8, [], [op('Return', 0, 8)])])
+    case.start(0, NIL, FALSE, TRUE, i(SMALLEST), i(LARGEST), f(-0.0), OTHER_NAN, f(INF))
+    case.run(1, 0, 1, 0, 0)
+
+    names = list(SLICES.values())
+    for at, slice in enumerate(names):
+        case = Case('start: 5, %s one cell short, and one cell longer' % slice, four)
+        case.start((5, 0, 0), i(1), lend=ALL[:at] + '0' + ALL[at + 1:])
+        case.start(0, i(1), lend=ALL[:at] + '2' + ALL[at + 1:])
+        case.run(1, 0, 1, 0, 0)
+    bad = [proto(4, 0, [], [op(39)])]
+    case = Case('start: 5 before 6, 10 and 20', bad)
+    case.set('t', 1, 0)
+    for at in (1, 5, 7):
+        case.start((5, 0, 0), *[NIL] * 9, lend=ALL[:at] + '0' + ALL[at + 1:])
+    case = Case('start: 6 before 10 and 20', bad)
+    letter, at, old = case.set('t', 1, 0)
+    case.start((6, 0, 0), *[NIL] * 9)
+    case.set(letter, at, old)
+    case.start((10, 0, 0), *[NIL] * 9)
+    case.start((10, 0, 0))
+
+    good = proto(4, 0, [NIL], [op('Move', 0, 1), RETURN])
+    for number, what, five in BROKEN:
+        case = Case('start: %d before 20, %s' % (number, what), [good, (4, 0, [const(NIL)], [op('Move', 0, 1), five, RETURN])])
+        case.start((number, 1, 1))
+        case.start((number, 1, 1), fn(0))
+    case = Case('start: 14, a prototype without instructions', [good, proto(1, 0, [], [])])
+    case.start((14, 1, 0), *[NIL] * 9)
+    case = Case('start: 15, no prototype', [])
+    case.start((15, 0, 0), *[NIL] * 9)
+    case.start((15, 0, 0))
+
+    several = [proto(2, 1, [b'a'], [op('Return', 0, 2)]), proto(1, 0, [], [RETURN])]
+    for what, arguments in (
+            ('9 nils', [NIL] * 9), ('a string', [s(0)]), ('a function', [fn(1)]), ('boolean 2', [(1, 2)]), ('boolean 2^64 - 1', [(1, MOST)]),
+            ('nil with a word', [(0, 1)]), ('kind 6', [(6, 0)]), ('kind 255', [(255, 0)]), ('a bad one that would drop', [i(1), i(2), s(0)]),
+            ('a bad eighth', [i(1)] * 7 + [fn(0)]), ('a bad first of 9', [fn(0)] + [NIL] * 8)):
+        case = Case('start: 20, %s' % what, several)
+        case.start((20, 0, 0), *arguments)
+        case.start(0, i(3))
+        case.start((20, 0, 0), *arguments)
+        case.run(1, 0, 1, 0, 0)
+    case = Case('start: 20, kinds and words of different lengths', several)
+    case.start((20, 0, 0), i(1), kinds=1, words=0)
+    case.start((20, 0, 0), NIL, kinds=0, words=1)
+    case.start((20, 0, 0), *[NIL] * 3, kinds=3, words=2)
+    case.start((20, 0, 0), *[NIL] * 3, kinds=2, words=3)
+    case.start((20, 0, 0), *[i(1)] * 9, kinds=8, words=9)
+    case.start((20, 0, 0), *[i(1)] * 9, kinds=9, words=8)
+    case.start(0, *[i(1)] * 8)
+    case.start(0, kinds=0, words=0)
+
+    case = Case('start: a machine that runs in its third activation starts again', NESTED)
+    case.start(0)
+    case.run(7, 70, 7, 2, 1)
+    case.start(0)
+    case.run(10, 0, 10, 0, 3)
+    case = Case('start: a finished machine starts again', NESTED)
+    case.start(0)
+    case.run(10, 0, 10, 0, 3)
+    case.start((5, 0, 0), lend='11111101')
+    case.start((20, 0, 0), fn(0))
+    case.run(1, 0, 0, 0, 3)
+    case.start(0)
+    case.run(0, 70, 0, 0, 0)
+    case = Case('start: a failed machine starts again', [proto(2, 1, [], [op('Add', 1, 0, 0), op('Return', 1, 1)])])
+    case.start(0, NIL)
+    case.run(5, 30, 1, 0, 0)
+    case.start(0, i(4))
+    case.run(5, 0, 2, 0, 1)
+    case = Case('start: an unfit state is fit after it, with what lies beyond its window', [proto(2, 0, [], [RETURN])])
+    case.clear()
+    case.at((9, 9), (9, 9), mark=MOST)
+    case.put((9, 9), (9, 9), (9, 9), (9, 9))
+    case.run(0, 60, 0, 0, 0)
+    case.start(0)
+    case.run(0, 70, 0, 0, 0)
+    case.run(1, 0, 1, 0, 0)
+
+
+# Three prototypes, each called by the one before: ten instructions, in the third activation after six.
+NESTED = [
+    proto(3, 0, [i(5), b's', f(2.0)], [op('Closure', 0, 1), op('LoadConstant', 1, 0), op('Call', 0, 1, 1), op('Return', 0, 1)]),
+    proto(3, 1, [b't'], [op('Closure', 1, 2), op('Move', 2, 0), op('Call', 1, 1, 2), op('Return', 1, 2)]),
+    proto(2, 1, [], [op('Move', 1, 0), op('Return', 0, 2)]),
+]
+
+# Instructions that break a rule in a prototype of 4 registers and 1 constant in an image of 2 prototypes, as the second of three.
+BROKEN = [
+    (10, 'operation 39', op(39)),
+    (10, 'operation 4', op(4, 0, 0, 0)),
+    (10, 'operation 255', (255, 255, 255, 255, 255)),
+    (10, 'Call of 255 arguments', op('Call', 0, 255, 0)),
+    (10, 'Call for 255 values', op('Call', 0, 0, 255)),
+    (10, 'Return of 255', op('Return', 0, 255)),
+    (10, 'Jump that closes 0', (14, 0, 0, 0, 0)),
+    (11, 'Move with a third byte', op('Move', 0, 1, 1)),
+    (11, 'Not with flag 1', op('Not', 0, 1, flags=1)),
+    (11, 'Minus with flag 128', op('Minus', 0, 1, flags=128)),
+    (11, 'LoadBool 2', op('LoadBool', 0, 2, 0)),
+    (11, 'LoadBool that skips 2', op('LoadBool', 0, 0, 2)),
+    (11, 'LoadNil with a third byte', op('LoadNil', 0, 1, 1)),
+    (11, 'Call with flag 1', op('Call', 0, 0, 0, flags=1)),
+    (11, 'Return with a third byte', op('Return', 0, 0, 1)),
+    (11, 'Add with flag 4', op('Add', 0, 0, 0, flags=4)),
+    (12, 'Move to register 4', op('Move', 4, 0)),
+    (12, 'Move from register 4', op('Move', 0, 4)),
+    (12, 'LoadNil of five', op('LoadNil', 0, 5)),
+    (12, 'Call of four arguments', op('Call', 0, 4, 0)),
+    (12, 'Call for five values', op('Call', 0, 0, 5)),
+    (12, 'Return of five', op('Return', 0, 5)),
+    (12, 'Prep with the step at register 4', op('NumericForPrep', 2, 0)),
+    (12, 'NumericForLoop with the copy at register 4', op('NumericForLoop', 1, 0)),
+    (12, 'Add with register 255', op('Add', 0, 255, 0)),
+    (12, 'Minus into register 4', op('Minus', 4, 0)),
+    (13, 'LoadConstant 1', op('LoadConstant', 0, 1)),
+    (13, 'LoadConstant 256', op('LoadConstant', 0, 256)),
+    (13, 'Add with constant 1 on the left', op('Add', 0, 1, 0, flags=1)),
+    (13, 'Eq with constant 1 on the right', op('Eq', 0, 0, 1, flags=2)),
+    (14, 'Jump past the last', op('Jump', 1)),
+    (14, 'Jump before the first', op('Jump', -3)),
+    (14, 'Jump by -32768', op('Jump', -32768)),
+    (14, 'Prep past the last', op('NumericForPrep', 0, 1)),
+    (14, 'NumericForLoop before the first', op('NumericForLoop', 0, -3)),
+    (14, 'Test with nothing to skip to', op('Test', 0, 0)),
+    (14, 'TestSet with nothing to skip to', op('TestSet', 0, 0, 0)),
+    (14, 'Less with nothing to skip to', op('Less', 0, 0, 0)),
+    (14, 'LoadBool with nothing to skip to', op('LoadBool', 0, 0, 1)),
+    (15, 'Closure 2', op('Closure', 0, 2)),
+    (15, 'Closure 255', op('Closure', 0, 255)),
+]
+
+
+# ---- operators
+
+ARITHMETIC = ('Add', 'Sub', 'Mul', 'Div', 'IDiv', 'Mod')
+BITWISE = ('BitAnd', 'BitOr', 'BitXor', 'ShiftLeft', 'ShiftRight')
+NUMBER = {'Add': 30, 'Sub': 31, 'Mul': 32, 'Div': 33, 'IDiv': 34, 'Mod': 35, 'Minus': 36, 'BitAnd': 37, 'BitOr': 38, 'BitXor': 39,
+          'BitNot': 40, 'ShiftLeft': 41, 'ShiftRight': 42, 'Less': 43, 'LessEq': 44}
+SAMPLE = [NIL, TRUE, i(6), i(-4), f(2.5), f(4.0), s(0), fn(1)]
+EDGES = {
+    'Add': [(i(LARGEST), i(1)), (i(SMALLEST), i(-1)), (i(2**53 + 1), f(1.0)), (f(INF), f(-INF)), (OTHER_NAN, i(1)), (f(-0.0), f(-0.0))],
+    'Sub': [(i(SMALLEST), i(1)), (i(0), i(SMALLEST)), (f(0.0), f(0.0)), (f(INF), f(INF)), (i(2**53 + 1), f(0.0))],
+    'Mul': [(i(LARGEST), i(LARGEST)), (i(SMALLEST), i(-1)), (i(2**32), i(2**32)), (f(0.0), f(INF)), (i(0), f(-1.0)), (f(1e200), f(1e200))],
+    'Div': [(i(1), i(0)), (i(-1), i(0)), (i(0), i(0)), (i(1), f(-0.0)), (i(LARGEST), i(LARGEST)), (i(1), i(3))],
+    'IDiv': [(i(-7), i(2)), (i(SMALLEST), i(-1)), (i(7), i(0)), (i(0), i(0)), (f(7.0), i(0)), (i(7), f(0.0)), (i(-7), f(2.0)), (f(-0.0), i(3)),
+             (f(1.0), f(0.1)), (f(-5e-324), f(2.0)), (i(7), f(INF)), (i(-7), f(INF))],
+    'Mod': [(i(7), i(-2)), (i(SMALLEST), i(-1)), (i(LARGEST - 1), i(LARGEST)), (i(7), i(0)), (i(0), i(0)), (f(7.0), i(0)), (i(7), f(0.0)),
+            (f(-4.0), f(2.0)), (f(4.0), f(-2.0)), (f(1.0), f(INF)), (f(1e-20), f(1.0)), (f(1e308), f(1.7e308)), (f(5.5), f(-2.0))],
+    'BitAnd': [(f(-0.0), i(-1)), (f(2.0**63), i(1)), (f(-2.0**63), i(-1)), (i(1), NAN), (i(1), f(INF)), (f(0.5), f(0.5))],
+    'BitOr': [(f(2.0**62), i(1)), (f(-2.0**64), i(1)), (i(1), OTHER_NAN)],
+    'BitXor': [(i(-1), f(-1.0)), (f(-INF), i(1)), (i(1), f(1e-300))],
+    'ShiftLeft': [(i(2), i(-1)), (i(1), i(64)), (i(1), i(63)), (i(-1), i(-63)), (i(-1), i(-64)), (i(1), i(SMALLEST)), (i(1), f(3.0)), (i(1), f(3.5))],
+    'ShiftRight': [(i(-1), i(1)), (i(1), i(-63)), (i(-1), i(64)), (i(-1), i(63)), (i(1), i(-64)), (i(1), i(SMALLEST)), (f(8.0), i(1)),
+                   (f(2.0**63), i(1))],
+}
+
+
+def is_whole(value):
+    if value[0] == 2:
+        return True
+    x = model.double(value[1])
+    return value[0] == 3 and x == x and abs(x) != INF and x == int(x) and -2**63 <= x < 2**63
+
+
+def takes(name, left, right):
+    """Whether an operator takes two values."""
+    if name in BITWISE:
+        return is_whole(left) and is_whole(right)
+    if left[0] not in (2, 3) or right[0] not in (2, 3):
+        return False
+    return not (name in ('IDiv', 'Mod') and left[0] == right[0] == 2 and right[1] == 0)
+
+
+def binaries():
+    for name in ARITHMETIC + BITWISE:
+        case = Case('%s: all kinds, and edges' % name, [proto(3, 0, [b'a'], [op(name, 2, 0, 1), RETURN]), proto(1, 0, [], [RETURN])])
+        case.clear()
+        for left, right in [(left, right) for left in SAMPLE for right in SAMPLE] + EDGES[name]:
+            case.at((0, 0))
+            case.put(left, right)
+            if takes(name, left, right):
+                case.run(1, 70, 1, 0, 1)
+            else:
+                case.run(1, NUMBER[name], 1, 0, 0)
+        case = Case('%s: constants, and a destination that is an operand' % name, [
+            proto(3, 0, [i(20), f(3.0), b'a'], [
+                op(name, 2, 0, 1), op(name, 2, 0, 1, flags=1), op(name, 2, 0, 1, flags=2), op(name, 2, 0, 1, flags=3),
+                op(name, 0, 0, 1), op(name, 1, 1, 0), op(name, 2, 0, 0), RETURN, op(name, 0, 2, 0, flags=1), op(name, 0, 0, 2, flags=2), RETURN])])
+        case.start(0)
+        case.put(i(9), i(2))
+        case.run(7, 70, 7, 0, 7)
+        for at in (8, 9):
+            case.at((0, at))
+            case.put(i(9), i(2))
+            case.run(2, NUMBER[name], 1, 0, at)
+            case.run(2, NUMBER[name], 0, 0, at)
+
+
+def unaries():
+    values = [NIL, FALSE, TRUE, i(0), i(7), i(-1), i(SMALLEST), f(0.0), f(-0.0), f(2.5), f(4.0), f(2.0**63), f(-2.0**63), NAN, OTHER_NAN, f(INF),
+              s(0), s(1), fn(0), fn(1)]
+    for name in ('Move', 'Not', 'Minus', 'BitNot'):
+        case = Case('%s: all kinds' % name, [proto(2, 0, [b'a', b''], [op(name, 1, 0), op(name, 0, 0), RETURN]), proto(1, 0, [], [RETURN])])
+        case.clear()
+        for value in values:
+            for at in (0, 1):
+                case.at((0, at))
+                case.put(value)
+                if name in ('Move', 'Not') or name == 'Minus' and value[0] in (2, 3) or name == 'BitNot' and is_whole(value):
+                    case.run(1, 70, 1, 0, at + 1)
+                else:
+                    case.run(1, NUMBER[name], 1, 0, at)
+
+
+def comparisons():
+    values = [NIL, FALSE, TRUE, i(6), i(-4), f(6.0), f(2.5), s(0), s(1), s(2), s(3), fn(0), fn(1)]
+    edges = [(i(2**53 + 1), f(2.0**53)), (f(2.0**53), i(2**53 + 1)), (i(LARGEST), f(2.0**63)), (f(2.0**63), i(LARGEST)), (i(SMALLEST), f(-2.0**63)),
+             (NAN, NAN), (NAN, i(1)), (i(1), NAN), (f(INF), i(LARGEST)), (f(-INF), i(SMALLEST)), (f(-0.0), i(0)), (f(0.0), f(-0.0)), (OTHER_NAN, NAN)]
+    for name in ('Eq', 'Less', 'LessEq'):
+        case = Case('%s: all kinds, and edges' % name, [
+            proto(2, 0, [b'a', b'b', b'', b'a'], [op(name, 0, 0, 1), RETURN, RETURN, op(name, 1, 0, 1), RETURN, RETURN]), proto(1, 0, [], [RETURN])])
+        case.clear()
+        for at, pairs in ((0, [(left, right) for left in values for right in values] + edges), (3, [(x, x) for x in values] + edges)):
+            for left, right in pairs:
+                case.at((0, at))
+                case.put(left, right)
+                fits = name == 'Eq' or left[0] in (2, 3) and right[0] in (2, 3) or left[0] == right[0] == 4
+                if fits:
+                    answer = case.run(1)
+                    assert answer[:3] == (70, 1, 0) and answer[3] in (at + 1, at + 2), (name, left, right, answer)
+                else:
+                    case.run(1, NUMBER[name], 1, 0, at)
+        case = Case('%s: constants' % name, [
+            proto(1, 0, [i(3), f(3.5), b'ab', b'b'], [
+                op(name, 0, 0, 0, flags=1), RETURN, op(name, 0, 0, 1, flags=2), RETURN, op(name, 1, 2, 3, flags=3), RETURN,
+                op(name, 1, 3, 2, flags=3), RETURN, RETURN])])
+        case.start(0)
+        case.put(i(3))
+        case.run(3)
+        for at in (2, 4, 6):
+            case.at((0, at))
+            case.run(1)
+    case = Case('Less: strings byte by byte, a prefix first', [
+        proto(2, 0, [b'', b'\0', b'a', b'a\0', b'ab', b'b', b'\x7f', b'\x80', b'\xff', b'a' * 64], [op('Less', 1, 0, 1), RETURN, RETURN])])
+    case.clear()
+    texts = [b'', b'\0', b'a', b'a\0', b'ab', b'b', b'\x7f', b'\x80', b'\xff', b'a' * 64]
+    for left in range(10):
+        for right in range(10):
+            case.at((0, 0))
+            case.put(s(left), s(right))
+            case.run(1, 70, 1, 0, 2 if texts[left] < texts[right] else 1)
+
+
+def tests():
+    values = [(NIL, 0), (FALSE, 0), (TRUE, 1), (i(0), 1), (f(0.0), 1), (NAN, 1), (s(0), 1), (fn(0), 1)]
+    code = [op('Test', 0, 0), RETURN, RETURN, op('Test', 0, 1), RETURN, RETURN, op('TestSet', 1, 0, 0), RETURN, RETURN, op('TestSet', 1, 0, 1),
+            RETURN, RETURN, op('TestSet', 0, 0, 0), RETURN, RETURN]
+    case = Case('Test and TestSet: all kinds; a skip where the truth is the byte, a copy where none', [proto(3, 0, [b''], code)])
+    case.clear()
+    for value, truth in values:
+        for at, byte in ((0, 0), (3, 1), (6, 0), (9, 1), (12, 0)):
+            case.at((0, at))
+            case.put(value, i(99))
+            case.run(1, 70, 1, 0, at + 2 if truth == byte else at + 1)
+
+
+def loads():
+    case = Case('LoadConstant: all kinds, of the second prototype too', [
+        proto(8, 0, [NIL, FALSE, TRUE, i(-2), OTHER_NAN, f(-0.0), b'', b'text'], [
+            *[op('LoadConstant', at, at) for at in range(8)], op('Closure', 0, 1), op('Call', 0, 0, 1), op('Return', 0, 8)]),
+        proto(1, 0, [b'text', b'other'], [op('LoadConstant', 0, 1), op('Return', 0, 1)])])
+    case.start(0)
+    case.run(8, 70, 8, 0, 8)
+    case.run(9, 0, 5, 0, 10)
+    case = Case('LoadBool: values and skips', [
+        proto(4, 0, [], [op('LoadBool', 0, 0, 0), op('LoadBool', 1, 1, 0), op('LoadBool', 2, 0, 1), RETURN, op('LoadBool', 3, 1, 1), RETURN, RETURN])])
+    case.start(0)
+    for at, after in ((0, 1), (1, 2), (2, 4), (4, 6)):
+        case.run(1, 70, 1, 0, after)
+    case.run(1, 0, 1, 0, 6)
+    case = Case('LoadNil: none, one, all, none at the end', [
+        proto(4, 0, [], [op('LoadNil', 0, 0), op('LoadNil', 1, 1), op('LoadNil', 4, 0), op('LoadNil', 2, 2), op('LoadNil', 0, 4), RETURN])])
+    case.start(0)
+    case.put(i(1), fn(0), TRUE, f(1.0), i(77))
+    for at in range(5):
+        case.run(1, 70, 1, 0, at + 1)
+    case.run(1, 0, 1, 0, 5)
+    case = Case('LoadNil: 255 of 255', [proto(255, 0, [], [op('LoadNil', 0, 255), RETURN])])
+    case.start(0)
+    case.put(i(1), first=0)
+    case.put(i(2), i(3), first=254)
+    case.run(1, 70, 1, 0, 1)
+    case = Case('Closure: itself and another; Jump: on, back, to itself', [
+        proto(2, 0, [], [op('Closure', 0, 0), op('Closure', 1, 1), op('Jump', 1), op('Jump', -1), op('Jump', -2), RETURN]),
+        proto(1, 0, [], [RETURN])])
+    case.start(0)
+    for after in (1, 2, 4, 3, 3, 3):
+        case.run(1, 70, 1, 0, after)
+    case = Case('Jump: far', [proto(1, 0, [], [op('Jump', 299)] + [RETURN] * 299 + [op('Jump', -301)])])
+    case.start(0)
+    case.run(1, 70, 1, 0, 300)
+    case.run(1, 70, 1, 0, 0)
+    case.run(1001, 70, 1001, 0, 300)
+
+
+# ---- loops
+
+LOOP = [op('LoadConstant', 0, 0), op('LoadConstant', 1, 1), op('LoadConstant', 2, 2), op('NumericForPrep', 0, 0), op('NumericForLoop', 0, -1),
+        op('Return', 0, 4)]
+
+
+def loops():
+    def looped(what, first, limit, step, turns):
+        """turns: how often the body is entered; None without end."""
+        case = Case('loop: %s' % what, [proto(4, 0, [first, limit, step], LOOP)])
+        case.start(0)
+        case.run(4, 70, 4, 0, 4)
+        if turns is None:
+            case.run(50, 70, 50, 0, 4)
+            return
+        for _ in range(min(turns, 3)):
+            case.run(1, 70, 1, 0, 4)
+        case.run(turns + 9, 0, turns - min(turns, 3) + 2, 0, 5)
+    looped('1, 3', i(1), i(3), i(1), 3)
+    looped('3, 1', i(3), i(1), i(1), 0)
+    looped('3, 1, -1', i(3), i(1), i(-1), 3)
+    looped('1, 3, -1', i(1), i(3), i(-1), 0)
+    looped('1, 10, 4', i(1), i(10), i(4), 3)
+    looped('1.0, 3', f(1.0), i(3), i(1), 3)
+    looped('1, 3, 1.0', i(1), i(3), f(1.0), 3)
+    looped('1, 2.5, an integer loop', i(1), f(2.5), i(1), 2)
+    looped('1, infinity', i(1), f(INF), i(1), None)
+    looped('-1, -infinity, -1', i(-1), f(-INF), i(-1), None)
+    looped('step 0', i(1), i(1), i(0), None)
+    looped('step 0, past the end', i(2), i(1), i(0), 0)
+    looped('step -0.0', f(1.0), i(1), f(-0.0), None)
+    looped('NaN index', NAN, i(1), i(1), None)
+    looped('NaN limit', i(1), NAN, i(1), None)
+    looped('NaN step', i(1), i(1), OTHER_NAN, None)
+    looped('up to the largest: it goes on from the smallest', i(LARGEST - 1), i(LARGEST), i(1), None)
+    looped('down to the smallest', i(SMALLEST + 1), i(SMALLEST), i(-1), None)
+    looped('a number index, an integer limit past 2^53', f(2.0**53), i(2**53 + 1), i(2), 1)
+    looped('smallest as step', i(0), i(0), i(SMALLEST), 1)
+    kinds = [NIL, TRUE, s(0), fn(0)]
+    values = [(i(1), i(3), i(1)), (f(1.0), f(3.0), f(1.0))]
+    case = Case('Prep: 31 unless index and step are numeric; the limit may be anything', [
+        proto(4, 0, [b'a'], [RETURN, op('NumericForPrep', 0, 1), RETURN, op('Return', 0, 4)])])
+    case.clear()
+    for good in values:
+        for which in range(3):
+            for bad in kinds:
+                controls = list(good)
+                controls[which] = bad
+                case.at((0, 1))
+                case.put(*controls, i(77))
+                case.run(1, *((70, 1, 0, 3) if which == 1 else (31, 1, 0, 1)))
+    case = Case('NumericForLoop: 30 unless all three are numeric, before anything changes', [
+        proto(4, 0, [b'a'], [RETURN, op('NumericForLoop', 0, 1), RETURN, op('Return', 0, 4)])])
+    case.clear()
+    for good in values:
+        for which in range(3):
+            for bad in kinds:
+                controls = list(good)
+                controls[which] = bad
+                case.at((0, 1))
+                case.put(*controls, i(77))
+                case.run(1, 30, 1, 0, 1)
+        for controls, place in (((good[0], good[1], good[2]), 3), ((good[1], good[0], good[2]), 2), ((good[2], f(0.5), i(-1)), 2)):
+            case.at((0, 1))
+            case.put(*controls, i(77))
+            case.run(1, 70, 1, 0, place)
+            case.run(2, 0, 1, 0, place)
+
+
+# ---- calls
+
+def calls():
+    for value in (NIL, FALSE, TRUE, i(0), i(1), f(1.0), s(0)):
+        case = Case('50: kind %d, word %x' % value, [proto(3, 0, [b'a'], [op('Call', 0, 1, 2), RETURN]), proto(1, 0, [], [RETURN])])
+        case.start(0)
+        case.put(value, i(4), i(5))
+        case.run(0, 70, 0, 0, 0)
+        case.run(3, 50, 1, 0, 0)
+        case.run(3, 50, 0, 0, 0)
+        case.run(0, 50, 0, 0, 0)
+    for arguments in range(4):
+        for parameters in range(4):
+            case = Case('Call: %d arguments, %d parameters' % (arguments, parameters), [
+                proto(5, 0, [], [op('Closure', 0, 1), op('Call', 0, arguments, 0), op('Call', 0, arguments, 0), RETURN]),
+                proto(3, parameters, [i(8)], [op('LoadConstant', 2, 0), RETURN])])
+            case.start(0)
+            case.put(i(11), OTHER_NAN, TRUE, first=1)
+            case.run(2, 70, 2, 1, 0)
+            case.run(2, 70, 2, 0, 2)
+            case.run(1, 70, 1, 1, 0)
+            case.run(9, 0, 3, 0, 3)
+    for returned in range(4):
+        for asked in range(4):
+            case = Case('Return: %d values, %d asked' % (returned, asked), [
+                proto(5, 0, [], [op('Closure', 1, 1), op('Call', 1, 0, asked), op('Return', 0, 5)]),
+                proto(4, 0, [i(8), f(-0.0), b'x', OTHER_NAN], [*[op('LoadConstant', at, at) for at in range(4)], op('Return', 1, returned)])])
+            case.start(0)
+            case.put(i(1), i(2), i(3), i(4), i(5))
+            case.run(6, 70, 6, 1, 4)
+            case.run(1, 70, 1, 0, 2)
+            case.run(1, 0, 1, 0, 2)
+            case.run(1, 0, 0, 0, 2)
+    case = Case('Return: all 254 for 254', [
+        proto(255, 0, [], [op('Closure', 1, 1), op('Call', 1, 253, 254), op('Return', 1, 254)]),
+        proto(255, 255, [], [op('Return', 1, 254)])])
+    case.start(0)
+    case.put(i(3), i(4), first=253)
+    case.run(2, 70, 2, 1, 0)
+    case.put(i(6), i(7), first=255 + 253)
+    case.run(1, 70, 1, 0, 2)
+    case.run(1, 0, 1, 0, 2)
+    case = Case('Return: the function itself is handed down, and is called again', [
+        proto(3, 0, [], [op('Closure', 0, 1), op('Move', 1, 0), op('Call', 0, 1, 1), op('Call', 0, 0, 1), op('Return', 0, 1)]),
+        proto(1, 1, [], [op('Return', 0, 1)])])
+    case.start(0)
+    case.run(4, 70, 4, 0, 3)
+    case.run(9, 0, 3, 0, 4)
+    case = Case('windows: each of its own size, and what they leave', NESTED)
+    case.start(0)
+    for after in ((0, 1), (0, 2), (1, 0), (1, 1), (1, 2), (2, 0), (2, 1), (1, 3), (0, 3)):
+        case.run(1, 70, 1, *after)
+    case.run(1, 0, 1, 0, 3)
+    case = Case('windows: a callee of more registers, then one of fewer, over what is left', [
+        proto(2, 0, [], [op('Closure', 0, 1), op('Call', 0, 0, 0), op('Closure', 0, 2), op('Call', 0, 0, 2), op('Return', 0, 2)]),
+        proto(4, 0, [i(1)], [op('LoadConstant', 0, 0), op('Move', 3, 0), op('Move', 2, 0), RETURN]),
+        proto(2, 0, [], [op('Not', 1, 0), op('Return', 0, 2)])])
+    case.start(0)
+    case.run(6, 70, 6, 0, 2)
+    case.run(2, 70, 2, 2, 0)
+    case.run(9, 0, 3, 0, 4)
+
+    itself = [proto(2, 1, [], [op('Closure', 0, 0), op('Call', 0, 1, 1), op('Return', 0, 2)])]
+    case = Case('51: 16 activations are live, 15 calls work', itself)
+    case.start(0)
+    case.run(30, 70, 30, 0, 0)
+    case.run(1, 70, 1, 0, 1)
+    case.run(5, 51, 1, 0, 1)
+    case.run(5, 51, 0, 0, 1)
+    case.run(0, 51, 0, 0, 1)
+    case = Case('51: in one run', itself)
+    case.start(0)
+    case.run(1000, 51, 32, 0, 1)
+    case = Case('51: 16 activations return one after the other', [
+        proto(3, 1, [i(1), i(15)], [
+            op('Eq', 1, 0, 1, flags=2), op('Jump', 1), op('Return', 0, 1), op('Closure', 1, 0), op('Add', 2, 0, 0, flags=2), op('Call', 1, 1, 1),
+            op('Return', 1, 1)])])
+    case.start(0, i(0))
+    # Five instructions to a call from each of 15; two to return from the sixteenth, then one from each of 15.
+    case.run(15 * 5 + 1, 70, 15 * 5 + 1, 0, 2)
+    case.run(15, 70, 15, 0, 6)
+    case.run(9, 0, 1, 0, 6)
+    case = Case('50 before 51', [proto(2, 1, [], [op('Call', 0, 0, 0), op('Closure', 0, 0), op('Call', 0, 0, 0), RETURN])])
+    case.clear()
+    case.at(*[(0, 3)] * 15, (0, 0))
+    case.run(1, 50, 1, 0, 0)
+    case.at(*[(0, 3)] * 15, (0, 1))
+    case.run(2, 51, 2, 0, 2)
+    wide = [proto(128, 0, [], [op('Closure', 0, 0), op('Call', 0, 0, 0), RETURN])]
+    case = Case('16 windows of 128 registers are 2,048: 51, not 52', wide)
+    case.start(0)
+    case.run(1000, 51, 32, 0, 1)
+    for last, answer in ((8, (70, 16, 1, 0)), (9, (52, 16, 0, 1))):
+        case = Case('52: 8 windows of 255 registers, and one of %d' % last, [
+            proto(255, 1, [i(7)], [
+                op('Closure', 0, 1), op('Call', 0, 0, 0), RETURN]),
+            proto(last, 0, [], [op('Return', 0, 1)])])
+        case.clear()
+        case.at(*[(0, 2)] * 7, (0, 0))
+        case.run(2, answer[0], 2, *answer[2:])
+        if last == 8:
+            case.run(1, 70, 1, 0, 2)
+            case.run(8, 0, 8, 0, 2)
+        else:
+            case.run(0, 52, 0, 0, 1)
+            case.run(9, 52, 0, 0, 1)
+    case = Case('52: the ninth window of 255', [proto(255, 0, [], [op('Closure', 0, 0), op('Call', 0, 0, 0), RETURN])])
+    case.start(0)
+    case.run(1000, 52, 16, 0, 1)
+    case.run(1000, 52, 0, 0, 1)
+    case = Case('51 before 52', [
+        proto(128, 0, [], [op('Closure', 0, 0), op('Call', 0, 0, 0), RETURN]), proto(255, 0, [], [op('Call', 254, 0, 0), RETURN])])
+    case.clear()
+    case.at(*[(0, 2)] * 15, (0, 1))
+    case.put(fn(1), first=15 * 128)
+    case.run(1, 51, 1, 0, 1)
+    case = Case('50 before 52', [proto(255, 0, [], [op('Call', 0, 0, 0), RETURN])])
+    case.clear()
+    case.at(*[(0, 1)] * 7, (0, 0))
+    case.run(1, 50, 1, 0, 0)
+    case.at(*[(0, 1)] * 7, (0, 0))
+    case.put(fn(0), first=7 * 255)
+    case.run(1, 52, 1, 0, 0)
+    case = Case('an error in a callee: the caller stays after its Call', [
+        proto(2, 0, [], [op('Closure', 0, 1), op('Call', 0, 0, 1), RETURN]), proto(2, 0, [], [op('LoadBool', 0, 1), op('Minus', 1, 0), RETURN])])
+    case.start(0)
+    case.run(9, 36, 4, 1, 1)
+    case.run(9, 36, 0, 1, 1)
+    case = Case('a Call from the second activation of values of the third constant table', [
+        proto(2, 0, [b'p'], [op('Closure', 0, 1), op('Call', 0, 0, 2), op('Return', 0, 2)]),
+        proto(3, 0, [b'q', b'r'], [op('LoadConstant', 0, 1), op('Closure', 1, 2), op('Call', 1, 0, 2), op('Return', 0, 2)]),
+        proto(2, 0, [b's', i(6)], [op('LoadConstant', 0, 0), op('Add', 1, 1, 1, flags=3), op('Return', 0, 2)])])
+    case.start(0)
+    case.run(20, 0, 10, 0, 2)
+
+
+# ---- budgets
+
+def budgets():
+    session = [proto(1, 0, [i(7)], [op('LoadConstant', 0, 0), op('Return', 0, 1)])]
+    w13 = [proto(4, 0, [i(1), i(3)], [
+        op('LoadConstant', 0, 0), op('LoadConstant', 1, 1), op('LoadConstant', 2, 0), op('NumericForPrep', 0, 0), op('NumericForLoop', 0, -1), RETURN])]
+    fails = [proto(2, 0, [], [op('LoadBool', 0, 1), op('Closure', 1, 1), op('Call', 1, 0, 0), RETURN]),
+             proto(1, 0, [], [op('LoadNil', 0, 1), op('ShiftRight', 0, 0, 0), RETURN])]
+    last = [proto(2, 0, [], [op('LoadNil', 0, 2), op('Less', 0, 0, 1), RETURN, RETURN])]
+    calls_nil = [proto(2, 0, [], [op('LoadNil', 0, 2), op('Call', 1, 0, 0), RETURN])]
+    for what, image, total, number, place in (
+            ('the session of document 01', session, 2, 0, (0, 1)), ('W13', w13, 9, 0, (0, 5)), ('three prototypes', NESTED, 10, 0, (0, 3)),
+            ('an error in a callee', fails, 5, 42, (1, 1)), ('an error', last, 2, 43, (0, 1)), ('a Call of nil', calls_nil, 2, 50, (0, 1))):
+        case = Case('budgets: %s' % what, image)
+        for budget in sorted({0, 1, total - 1, total, total + 1, 1000000, 2**32 - 1}):
+            case.start(0)
+            if budget < total:
+                assert case.run(budget)[:2] == (70, budget)
+                case.stands(70, 0, *case.machine.place())
+                case.run(0, 70, 0, *case.machine.place())
+                case.run(total - budget, number, total - budget, *place)
+            else:
+                case.run(budget, number, total, *place)
+            case.stands(number, 0, *place)
+            case.run(0, number, 0, *place)
+            case.run(5, number, 0, *place)
+        case = Case('two runs against one: %s' % what, image)
+        case.start(0)
+        for first in range(total + 1):
+            case.run(first)
+            if first < total:
+                case.run(total - first, number, total - first, *place)
+            case.start(0)
+        for _ in range(total - 1):
+            case.run(1)
+        case.run(1, number, 1, *place)
+    case = Case('budgets: no end', [proto(1, 0, [], [op('Jump', -1)])])
+    case.start(0)
+    for budget in (0, 1, 2, 100000):
+        case.run(budget, 70, budget, 0, 0)
+
+
+# ---- an image that is not accepted
+
+def faults():
+    for number, what, five in BROKEN:
+        image = [(4, 0, [const(NIL)], [op('Closure', 3, 1), five, RETURN]), proto(1, 0, [], [RETURN])]
+        case = Case('fault: %d, %s' % (number, what), image)
+        case.start((number, 0, 1))
+        case.clear()
+        case.at((0, 0))
+        case.run(1, 70, 1, 0, 1)
+        case.run(3, 60, 0, 0, 1)
+        case.run(0, 70, 0, 0, 1)
+        case.run(3, 60, 0, 0, 1)
+        case.stands(70, 0, 0, 1)
+        case.at((0, 0))
+        case.run(2, 60, 1, 0, 1)
+        case.set('c', 1, encoded(RETURN))
+        case.run(3, 0, 1, 0, 1)
+    case = Case('fault: nothing after the last', [proto(2, 0, [], [op('LoadBool', 0, 1), op('Move', 1, 0)])])
+    case.clear()
+    case.at((0, 0))
+    case.run(1, 70, 1, 0, 1)
+    case.run(1, 60, 0, 0, 1)
+    case.run(0, 70, 0, 0, 1)
+    case.run(3, 60, 0, 0, 1)
+    case = Case('fault: a Call that is the last', [proto(2, 0, [], [op('Closure', 0, 0), op('Call', 0, 0, 0)])])
+    case.clear()
+    case.at((0, 0))
+    case.run(9, 60, 1, 0, 1)
+    case.run(0, 70, 0, 0, 1)
+    case.run(3, 60, 0, 0, 1)
+    case = Case('fault: in a callee, with steps before it', [
+        proto(2, 0, [], [op('Closure', 0, 1), op('Call', 0, 0, 1), RETURN]), proto(2, 0, [], [op('LoadBool', 0, 1), op('Move', 2, 0), RETURN])])
+    case.clear()
+    case.at((0, 0))
+    case.run(9, 60, 3, 1, 1)
+    case.run(0, 70, 0, 1, 1)
+    case.run(3, 60, 0, 1, 1)
+    case.set('c', 4, encoded(op('Move', 1, 0)))
+    case.run(9, 0, 3, 0, 2)
+    case = Case('a fault that nothing reaches', [
+        proto(1, 0, [], [op('LoadBool', 0, 1, 1), op(39), RETURN, op(255)]), proto(1, 0, [], []), proto(2, 0, [], [op('Move', 5, 5)])])
+    case.start((10, 0, 1))
+    case.clear()
+    case.at((0, 0))
+    case.run(9, 0, 2, 0, 2)
+    case.run(9, 0, 0, 0, 2)
+    for what, five in (
+            ('Add', op('Add', 0, 0, 0, flags=4)), ('BitNot', op('BitNot', 0, 0, 1)), ('Less', op('Less', 2, 0, 0)), ('Call', op('Call', 0, 2, 0)),
+            ('Prep', op('NumericForPrep', 0, 7)), ('NumericForLoop', op('NumericForLoop', 0, 0, flags=1))):
+        case = Case('60 before a Lua error: %s' % what, [proto(2, 0, [], [five, RETURN, RETURN])])
+        case.clear()
+        case.at((0, 0))
+        case.run(1, 60, 0, 0, 0)
+    case = Case('60 before 51', [proto(2, 0, [], [op('Call', 0, 2, 0), op('Call', 0, 0, 0), RETURN])])
+    case.clear()
+    case.at(*[(0, 2)] * 15, (0, 0))
+    case.put(fn(0), first=30)
+    case.run(1, 60, 0, 0, 0)
+    case.at(*[(0, 2)] * 15, (0, 1))
+    case.run(1, 51, 1, 0, 1)
+
+    empty = [proto(2, 0, [], [op('Closure', 0, 1), op('Call', 0, 0, 1), RETURN]), proto(3, 1, [b'x'], []), proto(1, 0, [], [RETURN])]
+    case = Case('a Call into a prototype without instructions: exact budget', empty)
+    case.start((14, 1, 0))
+    case.clear()
+    case.at((0, 0))
+    case.run(2, 70, 2, 1, 0)
+    case.stands(60, 0, 0, 0)
+    case.run(0, 60, 0, 0, 0)
+    case.run(3, 60, 0, 0, 0)
+    case = Case('a Call into a prototype without instructions: larger budget', empty)
+    case.clear()
+    case.at((0, 0))
+    case.run(3, 60, 2, 1, 0)
+    case.run(0, 60, 0, 0, 0)
+    case.run(3, 60, 0, 0, 0)
+    case = Case('a Call into a prototype without instructions: from its Call', empty)
+    case.clear()
+    case.at((0, 1))
+    case.put(fn(1))
+    case.run(1, 70, 1, 1, 0)
+    case.run(1, 60, 0, 0, 0)
+    case.at((0, 1))
+    case.run(2**32 - 1, 60, 1, 1, 0)
+    case = Case('a Call into a prototype without instructions: 52 before it', [proto(255, 0, [], [op('Call', 0, 0, 0), RETURN]), proto(9, 0, [], [])])
+    case.clear()
+    case.at(*[(0, 1)] * 7, (0, 0))
+    case.put(fn(1), first=7 * 255)
+    case.run(2, 52, 1, 0, 0)
+
+
+# ---- what is unfit, each cause alone
+
+def unfit():
+    def nested(what):
+        """Running in the third activation, before its first instruction: registers 0 to 7 are live."""
+        case = Case(what, NESTED)
+        case.start(0)
+        case.run(6, 70, 6, 2, 0)
+        return case
+
+    def causes(what, *changes):
+        """The changes make it unfit, and nothing else does: undone, it goes on."""
+        case = nested('unfit: ' + what)
+        old = [case.set(*change) for change in changes]
+        case.stands(60, 0, 0, 0)
+        case.run(0, 60, 0, 0, 0)
+        case.run(4, 60, 0, 0, 0)
+        for change in reversed(old):
+            case.set(*change)
+        case.run(4, 0, 4, 0, 3)
+
+    def fits(what, expected, *changes):
+        case = nested('fit: ' + what)
+        for change in changes:
+            case.set(*change)
+        case.stands(*expected)
+        case.run(0, *expected)
+        return case
+
+    # slices
+    for at, slice in enumerate(SLICES.values()):
+        case = nested('unfit: %s is one cell short; not where it is one longer' % slice)
+        lend = ALL[:at] + '0' + ALL[at + 1:]
+        case.stands(60, 0, 0, 0, lend=lend)
+        case.run(0, 60, 0, 0, 0, lend=lend)
+        case.run(4, 60, 0, 0, 0, lend=lend)
+        case.run(4, 0, 4, 0, 3, lend=lend.replace('0', '2'))
+        case.run(4, 60, 0, 0, 0, lend=lend)
+        case.run(4, 0, 0, 0, 3)
+
+    # storage: 1 prototypes; 1 to 4 the first, 5 to 8 the second, 9 to 12 the third, 13 to 16 the closing entry
+    for what, change in (
+            ('two prototypes are told of three', ('t', 0, 2)), ('four prototypes are told of three', ('t', 0, 4)), ('no prototype', ('t', 0, 0)),
+            ('33 prototypes', ('t', 0, 33)), ('2^64 - 1 prototypes', ('t', 0, MOST)), ('no registers', ('t', 5, 0)), ('256 registers', ('t', 5, 256)),
+            ('more parameters than registers', ('t', 10, 3)), ('the first constant is not the first', ('t', 3, 1)),
+            ('the second prototype has its first constant after its last', ('t', 7, 5)), ('the first instruction is not the first', ('t', 4, 1)),
+            ('the second prototype has its first instruction after its last', ('t', 8, 9)), ('the closing entry has registers', ('t', 13, 1)),
+            ('the closing entry has parameters', ('t', 14, 1)), ('the constants end before they begin', ('t', 15, 3)),
+            ('257 constants', ('t', 15, 4 + 257)), ('4,097 instructions', ('t', 16, 8 + 4097)), ('2^64 - 1 instructions', ('t', 16, MOST)),
+            ('an instruction of more than five bytes', ('c', 9, 2**40)), ('a constant of kind 5', ('k', 0, 5)), ('a constant of kind 255', ('k', 3, 255)),
+            ('a string that is called an integer, and one after it that is not where the texts are passed up to', ('k', 1, 2)),
+            ('a nil with a word', ('k', 0, 0)), ('a boolean 5', ('k', 0, 1)), ('a string of 65 bytes', ('w', 3, 65536 + 65)),
+            ('a string that starts too late', ('w', 1, 65536 + 1)), ('a string that starts too early', ('w', 3, 1))):
+        case = nested('unfit: 6, %s' % what)
+        letter, at, old = case.set(*change)
+        case.stands(60, 0, 0, 0)
+        case.run(4, 60, 0, 0, 0)
+        case.start((6, 0, 0))
+        case.set(letter, at, old)
+        case.run(4, 0, 4, 0, 3)
+    case = nested('unfit: 6, one instruction more than 65,536 bytes can say')
+    # Three prototypes take 21 bytes, the constants 56, the end 5, each instruction 13.
+    case.set('t', 12, 4 + 4096)
+    case.set('t', 16, 4 + 4096 + 934)
+    case.run(0, 70, 0, 2, 0)
+    case.set('t', 16, 4 + 4096 + 935)
+    case.run(0, 60, 0, 0, 0)
+    case.set('t', 16, 4 + 4096 + 934)
+    case.run(3, 70, 3, 2, 3)
+    fits('what lies beyond the used storage', (70, 0, 2, 0), ('t', 17, 5), ('c', 10, MOST), ('k', 4, 9), ('w', 4, 9), ('x', 2, 9)).run(4, 0, 4, 0, 3)
+
+    # the mark
+    for mark in (1, 2, 5, 10, 20, 29, 45, 46, 49, 53, 60, 69, 71, 255, 256, 256 + 30, 256 + 70, 2**32, 2**32 + 70, MOST):
+        causes('mark %d' % mark, ('f', 0, mark))
+    for mark in [*range(30, 45), 50, 51, 52]:
+        case = fits('mark %d, whatever its instruction' % mark, (mark, 0, 2, 0), ('f', 0, mark))
+        case.run(5, mark, 0, 2, 0)
+
+    # the activations
+    for depth in (0, 4, 16, 17, 18, 255, 2**32 + 3, MOST):
+        causes('%d activations' % depth, ('f', 1, depth))
+    case = Case('unfit: 17 activations; 16 are not', [proto(1, 0, [], [op('Call', 0, 0, 0), RETURN])])
+    case.clear()
+    case.at(*[(0, 1)] * 16)
+    case.run(0, 70, 0, 0, 1)
+    case.set('f', 1, 17)
+    case.set('f', 34, 0)
+    case.run(0, 60, 0, 0, 0, lend='11111211')
+    case.run(3, 60, 0, 0, 0)
+    fits('the second activation is the innermost', (70, 0, 1, 3), ('f', 1, 2)).run(9, 0, 2, 0, 3)
+    fits('the first activation is the only one', (70, 0, 0, 3), ('f', 1, 1)).run(9, 0, 1, 0, 3)
+    for last, fit in ((8, True), (9, False)):
+        case = Case('%s: 8 windows of 255 registers and one of %d' % ('fit' if fit else 'unfit', last), [
+            proto(255, 0, [], [op('Call', 0, 0, 0), RETURN]), proto(last, 0, [], [op('Return', 0, last)])])
+        case.clear()
+        case.at(*[(0, 1)] * 8, (1, 0))
+        if fit:
+            case.run(0, 70, 0, 1, 0)
+            case.run(9, 0, 9, 0, 1)
+        else:
+            case.run(0, 60, 0, 0, 0)
+            case.run(9, 60, 0, 0, 0)
+    case = Case('unfit: 16 windows of 255 registers', [proto(255, 0, [], [op('Call', 0, 0, 0), RETURN])])
+    case.clear()
+    case.at(*[(0, 1)] * 16)
+    case.run(9, 60, 0, 0, 0)
+    case.at(*[(0, 1)] * 8)
+    case.run(9, 0, 8, 0, 1)
+    case = Case('unfit: 16 windows of 128 registers and one register more', [
+        proto(128, 0, [], [op('Call', 0, 0, 0), RETURN]), proto(129, 0, [], [op('Call', 0, 0, 0), RETURN])])
+    case.clear()
+    case.at(*[(0, 1)] * 16)
+    case.run(0, 70, 0, 0, 1)
+    for at in (0, 7, 15):
+        places = [(0, 1)] * 16
+        places[at] = (1, 1)
+        case.at(*places)
+        case.run(0, 60, 0, 0, 0)
+
+    # prototypes and instructions
+    for slot, who in ((2, 'the first activation'), (4, 'a suspended activation'), (6, 'the innermost activation')):
+        for q in (3, 32, 255, 2**32, MOST):
+            causes('%s names prototype %d of 3' % (who, q), ('f', slot, q))
+    for p in (2, 3, 4096, 2**32, MOST):
+        causes('the innermost activation names instruction %d of 2' % p, ('f', 7, p))
+    for slot, who in ((3, 'the first activation'), (5, 'a suspended activation')):
+        for p in (4, 5, 4096, 2**32, MOST):
+            causes('%s names instruction %d of 4' % (who, p), ('f', slot, p))
+        for p in (0, 1, 2):
+            causes('%s stands at %d, not after a Call' % (who, p), ('f', slot, p))
+    fits('the innermost activation stands at its last instruction', (70, 0, 2, 1), ('f', 7, 1)).run(9, 0, 3, 0, 3)
+    fits('the innermost activation is of another prototype', (70, 0, 1, 3), ('f', 6, 1), ('f', 7, 3), ('r', 8, 0), ('v', 8, 0))
+    case = Case('unfit: the instruction after the last one, which is a Call', [proto(1, 0, [], [RETURN, op('Call', 0, 0, 0)])])
+    case.clear()
+    case.at((0, 2), (0, 0))
+    case.run(0, 60, 0, 0, 0)
+    for what, five in (
+            ('10, 255 arguments', op('Call', 1, 255, 2)), ('10, 255 values', op('Call', 1, 1, 255)), ('11', op('Call', 1, 1, 2, flags=1)),
+            ('11, flag 128', op('Call', 1, 1, 2, flags=128)), ('12, arguments', op('Call', 1, 2, 2)), ('12, values', op('Call', 1, 1, 3)),
+            ('10, operation 11', (11, 0, 1, 1, 2)), ('a Return', op('Return', 1, 1)), ('a Move', op('Move', 1, 1))):
+        causes('a suspended activation stands after a Call that breaks a rule: %s' % what if what[0] == '1' else
+               'a suspended activation stands after %s' % what, ('c', 6, encoded(five)))
+    fits('the Call of a suspended activation is another', (70, 0, 2, 0), ('c', 6, encoded(op('Call', 0, 0, 3)))).run(9, 0, 4, 0, 3)
+    fits('the function of a suspended Call is none', (70, 0, 2, 0), ('r', 4, 0), ('v', 4, 0)).run(9, 0, 4, 0, 3)
+    fits('the first activation is of prototype 1', (70, 0, 2, 0), ('f', 2, 1), ('f', 3, 3)).run(9, 0, 4, 1, 3)
+    for number, what, five in BROKEN[:12:3]:
+        case = fits('the innermost instruction breaks a rule, %s' % what, (70, 0, 2, 0), ('c', 8, encoded(five)))
+        case.run(9, 60, 0, 2, 0)
+        case = fits('failed at an instruction that breaks a rule, %s' % what, (41, 0, 2, 0), ('c', 8, encoded(five)), ('f', 0, 41))
+        case.run(9, 41, 0, 2, 0)
+
+    # finished
+    causes('finished with three activations', ('f', 0, 0))
+    causes('finished with three activations at a Return', ('f', 0, 0), ('f', 7, 1))
+    causes('finished with two activations at a Return', ('f', 0, 0), ('f', 1, 2))
+    causes('finished with no activation', ('f', 0, 0), ('f', 1, 0))
+    fits('finished with one activation', (0, 0, 0, 3), ('f', 0, 0), ('f', 1, 1)).run(5, 0, 0, 0, 3)
+    fits('finished with one activation of prototype 1', (0, 0, 1, 3), ('f', 0, 0), ('f', 1, 1), ('f', 2, 1)).run(5, 0, 0, 1, 3)
+    for p in (0, 1, 2):
+        causes('finished at instruction %d, which is no Return' % p, ('f', 0, 0), ('f', 1, 1), ('f', 3, p))
+    causes('finished at an instruction that is not there', ('f', 0, 0), ('f', 1, 1), ('f', 3, 4))
+    causes('finished in a prototype that is not there', ('f', 0, 0), ('f', 1, 1), ('f', 2, 3))
+    for what, five in (('10', op('Return', 0, 255)), ('11, its third byte', op('Return', 0, 1, 1)), ('11, its flags', op('Return', 0, 1, flags=2)),
+                       ('12', op('Return', 0, 4)), ('12, none from 4', op('Return', 4, 0)), ('10, operation 13', (13, 0, 0, 1, 0))):
+        causes('finished at a Return that breaks a rule: %s' % what, ('f', 0, 0), ('f', 1, 1), ('c', 3, encoded(five)))
+    fits('finished at a Return of none from register 3', (0, 0, 0, 3), ('f', 0, 0), ('f', 1, 1), ('c', 3, encoded(op('Return', 3, 0))))
+    causes('failed, with a register that holds no value', ('f', 0, 30), ('r', 0, 6))
+    causes('finished, with a register that holds no value', ('f', 0, 0), ('f', 1, 1), ('r', 2, 6))
+    fits('finished, with a dead register that holds no value', (0, 0, 0, 3), ('f', 0, 0), ('f', 1, 1), ('r', 3, 6))
+    causes('failed, with no activation', ('f', 0, 30), ('f', 1, 0))
+
+    # live registers: 3 of the first activation, 3 of the second, 2 of the third; the constants are 5, 's', 2.0, 't'
+    nothing = [('kind 6', (6, 0)), ('kind 90', (90, 0)), ('kind 255', (255, 0)), ('boolean 2', (1, 2)), ('boolean 2^64 - 1', (1, MOST)),
+               ('boolean 256', (1, 256)), ('nil with word 1', (0, 1)), ('nil with word 2^63', (0, 2**63)), ('function 3 of 3', fn(3)),
+               ('function 2^32', fn(2**32)), ('function 2^64 - 1', fn(MOST)), ('string 4 of 4', s(4)), ('string 0, an integer', s(0)),
+               ('string 2, a number', s(2)), ('string 2^32 + 1', s(2**32 + 1)), ('string 2^64 - 1', s(MOST))]
+    for what, value in nothing:
+        for r in (0, 2, 3, 7):
+            causes('register %d holds %s' % (r, what), ('r', r, value[0]), ('v', r, value[1]))
+        case = nested('fit: the dead registers 8 and 2,307 hold %s' % what)
+        case.put(value, first=8)
+        case.put(value, first=2307)
+        case.run(0, 70, 0, 2, 0)
+        case.run(4, 0, 4, 0, 3)
+    causes('register 7 holds string 4, a string beyond the constants', ('k', 4, 4), ('w', 4, 2 * 65536), ('r', 7, 4), ('v', 7, 4))
+    for what, value in (('false', FALSE), ('true', TRUE), ('the smallest', i(SMALLEST)), ('a NaN', OTHER_NAN), ('string 1', s(1)),
+                        ('string 3, of another prototype', s(3)), ('function 0', fn(0)), ('function 2', fn(2))):
+        for r in (0, 7):
+            fits('register %d holds %s' % (r, what), (70, 0, 2, 0), ('r', r, value[0]), ('v', r, value[1])).run(4, 0, 4, 0, 3)
+    case = Case('unfit: registers 2,047 and 2,048', [
+        proto(255, 0, [], [op('Call', 0, 0, 0), RETURN]), proto(8, 0, [], [op('Return', 0, 8)])])
+    case.clear()
+    case.at(*[(0, 1)] * 8, (1, 0))
+    case.set('r', 2048, 6)
+    case.run(0, 70, 0, 1, 0)
+    case.set('r', 2047, 6)
+    case.run(0, 60, 0, 0, 0)
+    case.set('r', 2047, 5)
+    case.run(1, 70, 1, 0, 1)
+    case = Case('unfit: nothing was started', NESTED)
+    case.run(0, 60, 0, 0, 0)
+    case.run(5, 60, 0, 0, 0)
+    case.clear()
+    case.run(5, 60, 0, 0, 0)
+    case = Case('unfit: an image of no prototypes', [])
+    case.clear()
+    case.at((0, 0))
+    case.run(5, 60, 0, 0, 0)
+    case.at((0, 0), mark=0)
+    case.run(5, 60, 0, 0, 0)
+    case = Case('unfit: a prototype without instructions', [proto(1, 0, [], [])])
+    case.clear()
+    case.at((0, 0))
+    case.run(5, 60, 0, 0, 0)
+
+
+def main():
+    for group in (starts, binaries, unaries, comparisons, tests, loads, loops, calls, budgets, faults, unfit):
+        group()
+    crate = os.path.join(HERE, '..', '..', 'crates', 'states')
+    for name, parts in (('stdin', LIST), ('stdout', ANSWERS)):
+        with open(os.path.join(crate, name), 'w', encoding='ascii', newline='\n') as out:
+            out.write(''.join(parts))
+    print('%d cases, %d starts and runs, %d bytes, %d bytes' % (
+        sum(part[0] == '#' for part in ANSWERS), RUNS[0], sum(map(len, LIST)), sum(map(len, ANSWERS))))
+
+
+main()
