@@ -108,7 +108,7 @@ def compiled(path):
     """The main function of a source file."""
     with tempfile.TemporaryDirectory() as folder:
         out = os.path.join(folder, 'out')
-        done = subprocess.run(['luac5.3', '-o', out, path], stderr=subprocess.PIPE, universal_newlines=True)
+        done = subprocess.run(['luac5.3', '-o', out, path], stderr=subprocess.PIPE, universal_newlines=True, errors='replace')
         if done.returncode:
             raise Refused(done.stderr.strip())
         with open(out, 'rb') as file:

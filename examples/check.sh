@@ -1,0 +1,61 @@
+#!/usr/bin/env bash
+# Makes the image and the result of every rule in this folder again, and compares them with those that are kept.
+#
+#   examples/check.sh               compares; the exit status is 1 where something differs
+#   examples/check.sh --run CMD     also gives each image to CMD on standard input and compares what it writes, as in --run ./deletion
+#   examples/check.sh --update      writes images and results first
+#
+# The values of a result (lines b0) are what the real lua5.3 returns for the rule's source. Its first line (f0: answer, count and place) is the
+# model's, tools/luac/model.py, which must agree with Lua on the values. Nothing in it comes from the program that --run names.
+set -euo pipefail
+here=$(dirname "$0")
+tools=$here/../tools
+
+run='' update=''
+case "${1-} $#" in
+    ' 0') ;;
+    '--run 2') run=$2 ;;
+    '--update 1') update=yes ;;
+    *) echo "usage: $0 [--run CMD | --update]" >&2; exit 2 ;;
+esac
+
+scratch=$(mktemp -d)
+trap 'rm -r "$scratch"' EXIT
+
+# What lua5.3 returns for a rule, as lines of b0.
+values() {
+    cp "$1" "$scratch/1.lua"
+    lua5.3 "$tools/luac/run.lua" "$scratch" 1 | tr ' ' '\n' | sed -n '/^b0/p'
+}
+
+failed=0
+same() {
+    local what=$1 kept=$2 made=$3
+    if ! diff -u "$kept" "$made"; then
+        echo "$kept: $what differs" >&2
+        failed=1
+    fi
+}
+
+count=0
+for rule in "$here"/*.lua; do
+    kept=${rule%.lua}
+    image=$scratch/image result=$scratch/result model=$scratch/model answer=$scratch/answer
+    "$tools/lua2image/lua2image" "$rule" -o "$image"
+    python3 "$tools/luac/model.py" < "$image" > "$model"
+    { head -n 1 "$model"; values "$rule"; } > "$result"
+    if [ "$update" ]; then
+        cp "$image" "$kept.image"
+        cp "$result" "$kept.result"
+    fi
+    same 'the image' "$kept.image" "$image"
+    same 'the result' "$kept.result" "$result"
+    same "the model's answer" "$kept.result" "$model"
+    if [ "$run" ]; then
+        $run < "$kept.image" > "$answer" || true
+        same "the answer of $run" "$kept.result" "$answer"
+    fi
+    count=$((count + 1))
+done
+[ "$failed" = 0 ] && echo "$count rules: images and results as kept${run:+, and as $run answers}"
+exit "$failed"

@@ -1,0 +1,91 @@
+"""An image's instructions in words.
+
+    listed(prototypes, functions)     the text; functions: those of the Lua source, in the image's order, or None where there is no source
+
+A prototype is (registers, parameters, constants, instructions); a constant is its bytes from the tag on, an instruction its five bytes."""
+import struct
+
+from model import BINARY, COMPARISONS, OPERATIONS, broken_rules, target
+
+SIGNS = {
+    'Eq': '==', 'Less': '<', 'LessEq': '<=', 'Not': 'not ', 'Minus': '-', 'BitNot': '~', 'Add': '+', 'Sub': '-', 'Mul': '*', 'Div': '/',
+    'IDiv': '//', 'Mod': '%', 'BitAnd': '&', 'BitOr': '|', 'BitXor': '~', 'ShiftLeft': '<<', 'ShiftRight': '>>',
+}
+
+
+def value(constant):
+    """A constant as Lua writes it."""
+    tag, payload = constant[0], constant[1:]
+    if tag == 0:
+        return 'nil'
+    if tag == 1:
+        return 'true' if payload[0] else 'false'
+    if tag == 2:
+        return str(int.from_bytes(payload, 'big', signed=True))
+    if tag == 3:
+        return repr(struct.unpack('>d', payload)[0])
+    return '"%s"' % ''.join(chr(byte) if 32 <= byte < 127 and byte not in b'"\\' else '\\%03d' % byte for byte in payload)
+
+
+def registers(first, count):
+    """r3, or r3..r5; nothing for none."""
+    if count < 2:
+        return 'r%d' % first if count else ''
+    return 'r%d..r%d' % (first, first + count - 1)
+
+
+def in_words(five, q, p, constants):
+    """What instruction p of prototype q does; it breaks no rule."""
+    operation, flags, a, b, c = five
+    name = OPERATIONS[operation]
+    left = value(constants[b]) if flags & 1 else 'r%d' % b
+    right = value(constants[c]) if flags & 2 else 'r%d' % c
+    skip = 'go to %d:%d' % (q, p + 2)
+    jump = 'go to %d:%d' % (q, target(p, b, c))
+
+    def when(yes, condition):
+        return '%s %s %s' % ('if' if yes else 'unless', condition, skip)
+
+    if name in COMPARISONS:
+        return when(a, '%s %s %s' % (left, SIGNS[name], right))
+    if name in BINARY:
+        return 'r%d = %s %s %s' % (a, left, SIGNS[name], right)
+    if name in ('Not', 'Minus', 'BitNot'):
+        return 'r%d = %sr%d' % (a, SIGNS[name], b)
+    if name == 'Move':
+        return 'r%d = r%d' % (a, b)
+    if name == 'LoadConstant':
+        return 'r%d = %s' % (a, value(constants[b * 256 + c]))
+    if name == 'LoadBool':
+        return 'r%d = %s' % (a, 'true' if b else 'false') + (', ' + skip if c else '')
+    if name == 'LoadNil':
+        return '%s = nil' % registers(a, b) if b else 'nothing'
+    if name == 'Call':
+        return (registers(a, c) + ' = ' if c else '') + 'r%d(%s)' % (a, registers(a + 1, b))
+    if name == 'Return':
+        return registers(a, b) or 'no value'
+    if name == 'Jump':
+        return jump
+    if name == 'Test':
+        return when(b, 'r%d' % a)
+    if name == 'TestSet':
+        return when(c, 'r%d' % b) + ', else r%d = r%d' % (a, b)
+    if name == 'Closure':
+        return 'r%d = prototype %d' % (a, b)
+    if name == 'NumericForPrep':
+        return 'r%d = r%d - r%d, %s' % (a, a, a + 2, jump)
+    return 'r%d = r%d + r%d, unless past r%d: r%d = r%d, %s' % (a, a, a + 2, a + 1, a + 3, a, jump)
+
+
+def listed(prototypes, functions=None):
+    lines = []
+    for q, (size, parameters, constants, code) in enumerate(prototypes):
+        begins = '' if functions is None else ', the main program' if q == 0 else ', the function at line %d' % functions[q].line
+        lines.append('prototype %d%s: registers %d, parameters %d' % (q, begins, size, parameters))
+        for p, five in enumerate(code):
+            broken = broken_rules(five, p, len(code), size, len(constants), len(prototypes))
+            name = OPERATIONS.get(five[0], 'operation %d' % five[0])
+            words = 'bytes %s, refused with %d' % (bytes(five).hex(' '), min(broken)) if broken else in_words(five, q, p, constants)
+            line = '' if functions is None else 'line %-5d' % functions[q].lines[p]
+            lines.append('%-8s%s %-15s %s' % ('%d:%d' % (q, p), line, name, words))
+    return ''.join(line + '\n' for line in lines)
