@@ -26,7 +26,7 @@ module _ (S : Storage) (v : Validity) (told : v ≡ validOf S) where
           by-bool (readsBack S) (λ e. rw e (λ h. (refl, cc)))
           (λ e. rw e (λ h. let z : _≡_ {A = ℕ} 0 1 = cc in absurd (omega arith)))
 
-  valid-six : v ≡ valid.Six → readsBack S ≡ false
+  pub valid-six : v ≡ valid.Six → readsBack S ≡ false
   valid-six e = from (sym told ∙ e)
     where
       from : validOf S ≡ valid.Six → readsBack S ≡ false

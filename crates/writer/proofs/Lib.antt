@@ -4,4 +4,5 @@ pub mod HexPuts
 pub mod FramePuts
 pub mod Narrow
 pub mod Answers
+pub mod OneLine
 pub mod RoundTrip

@@ -3,10 +3,11 @@
 -- how many; all beyond is unchanged."
 use Prim.Native.Nat.{ℕ}
 use mathlib.Core.Path.{_≡_}
-use mathlib.Core.List.{List}
+use mathlib.Core.List.{List, [], _∷_, _++_}
 use lib.ListN.{length}
 use lib.Dec.{leb}
 use Rattle.image.specs.Hex.{pick}
+use Rattle.image.specs.Write.{hexOf}
 use Rattle.storage.specs.Layout.{Storage, longEnough, laid}
 use Rattle.storage.specs.Stored.{imageIn, readsBack}
 use Rattle.writer.specs.declared.Wrote.{Wrote}
@@ -25,3 +26,13 @@ outOf (Refused k) S out = out
 pub record Written (S : Storage) (r : Wrote) (out out' : List ℕ) : Type 0 where
   pub answer : r ≡ writeOf S out
   pub left : out' ≡ outOf r S out
+
+-- ---- one line: "Lowercase digits in pairs, ended by LF"
+
+abbrev pub lineOf : List ℕ → List ℕ
+lineOf bytes = hexOf bytes ++ 10 ∷ []
+
+-- at the front of an output that has room for it
+pub record Lined (line : List ℕ) (r : ℕ) (out out' : List ℕ) : Type 0 where
+  pub answer : r ≡ pick (leb (length line) (length out)) (length line) 0
+  pub left : out' ≡ pick (leb (length line) (length out)) (laid line out) out

@@ -4,13 +4,13 @@ mod line;
 
 use storage::Validity;
 ghost use mathlib.Core.Path.{_≡_};
-ghost use mathlib.Core.List.{[], _∷_};
+ghost use mathlib.Core.List.{[], _∷_, _++_};
 ghost use Prim.Native.Nat.{ℕ, _+_, _<_};
 ghost use Rattle.image.specs.Write.{written};
 ghost use Rattle.storage.specs.Layout.{storage};
 ghost use Rattle.storage.specs.Fields.{prototypesOf};
 ghost use Rattle.storage.specs.Stored.{constFrame, constFrames, codeFrames, protoFrames, imageIn};
-ghost use Rattle.writer.specs.Writing.{Written};
+ghost use Rattle.writer.specs.Writing.{Written, lineOf, Lined};
 ghost use Rattle.writer.specs.Putting.{Room, Put, Narrow};
 
 // How many bytes were written, or the refusal's number.
@@ -151,4 +151,26 @@ pub fn write(
             Wrote::Bytes(n)
         }
     }
+}
+
+// ---- one line
+
+// The line that says `head` and then `tail`, at the front of the output. How long it is; 0 where it has no room, and
+// then nothing is written.
+pub fn write_line(head: &[u8], tail: &[u8], out: &mut [u8]) -> usize
+    ensures { λ r. ⌜ Lined (lineOf (now (head .entry) ++ now (tail .entry))) r (now (out .entry)) (now (out .exit)) ⌝ }
+{
+    if out.len() / 2 < head.len() {
+        return 0;
+    }
+    let room = out.len() - 2 * head.len();
+    if room / 2 < tail.len() {
+        return 0;
+    }
+    if room - 2 * tail.len() < 1 {
+        return 0;
+    }
+    let t = hex::put_text(out, 0, head);
+    let u = hex::put_text(out, t, tail);
+    line::put_lf(out, u)
 }

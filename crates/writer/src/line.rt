@@ -5,7 +5,7 @@ ghost use Rattle.image.specs.Frames.{opens, const, str, code, ends};
 ghost use Rattle.image.specs.Write.{written};
 ghost use Rattle.writer.specs.Putting.{Room, Put};
 
-fn put_lf(out: &mut [u8], at: usize) -> usize
+pub(crate) fn put_lf(out: &mut [u8], at: usize) -> usize
     requires { ⌜ Room (now out) at (10 ∷ []) ⌝ }
     ensures { λ r. ⌜ Put (now (out .entry)) at (10 ∷ []) r (now (out .exit)) ⌝ }
 {

@@ -1,0 +1,17 @@
+-- The bytes that the program's lines say: "`f0`, answer (1 byte), count (4), prototype (1), instruction (2; for reading, prototype 0 and the line), then each
+-- returned value as a `b0` line, a function as tag 05 and its prototype." Assumes nothing.
+use Prim.Native.Nat.{ℕ}
+use mathlib.Core.List.{List, [], _∷_}
+use lib.Dec.{eqb}
+use Rattle.image.specs.Hex.{pick}
+use Rattle.image.specs.Frames.{const, str}
+use Rattle.image.specs.Write.{wordBytes, frameBytes}
+use Rattle.vm.specs.declared.Outcome.{Outcome}
+
+unfoldable pub answerBytes : Outcome → List ℕ
+answerBytes o = 0xf0 ∷ o .number ∷ wordBytes 4 (o .count) (wordBytes 1 (o .prototype) (wordBytes 2 (o .instruction) []))
+
+-- of a kind and a word, as a register holds them; `text` is what a string says
+unfoldable pub valueBytes : ℕ → ℕ → List ℕ → List ℕ
+valueBytes kind word text =
+    pick (eqb kind 4) (frameBytes (str text)) (pick (eqb kind 5) (0xb0 ∷ 5 ∷ wordBytes 1 word []) (frameBytes (const kind word)))

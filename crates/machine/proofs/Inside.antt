@@ -1,0 +1,184 @@
+-- What a host is told lies inside what was lent: a string's place within the texts, and returned values within the registers. Assumes nothing.
+use Prim.Native.Nat.{ℕ, zero, suc, _+_, _-_, _*_, _/_, _%_, _≤_, _<_}
+use native.Mathlib.Omega.{arith}
+use mathlib.Core.Path.{_≡_}
+use mathlib.Core.Bool.{true}
+use mathlib.Core.List.{List, [], _∷_}
+use lib.ListN.{length, getD}
+use lib.Dec.{eqb, ltb}
+use borrow.Author.Tests.{eqb-true, eqb-false, ltb-true}
+use Rattle.image.specs.Frames.{F, opens, const, str, code, shape}
+use Rattle.image.specs.declared.Counts.{Counts}
+use Rattle.image.specs.declared.Step.the-variants.{On, Done}
+use Rattle.image.proofs.Cases.{pick-cases}
+use Rattle.image.proofs.Said.{Said, AllSaid, more}
+use Rattle.image.proofs.Trip.{accepted-said}
+use Rattle.storage.specs.Layout.{Storage, longEnough, textsOf, textsAll}
+use Rattle.storage.specs.Fields.{prototypesOf, registersOf, firstConstant}
+use Rattle.storage.specs.Stored.{imageIn, readsBack}
+use Rattle.storage.specs.Cursor.{past}
+use Rattle.storage.specs.declared.Tops.{Tops}
+use Rattle.storage.proofs.Places.{at-first, at-within}
+use Rattle.storage.proofs.Runs.{Runs, last, next, Told, opened, word, text, instruction, ended, told-as}
+use Rattle.storage.proofs.Lies.{Stands, all, lies-rest}
+use Rattle.storage.proofs.Seen.{Constant, end-seen, word-seen, text-seen}
+use Rattle.storage.proofs.Reading.{reads-frames}
+use Rattle.storage.proofs.Six.{readable}
+use Rattle.checker.proofs.Bools.{test-cases, and-right}
+use Rattle.checker.specs.Check.{limitsOf}
+use Rattle.checker.specs.declared.Limits.{Limits}
+use Rattle.checker.specs.declared.Instruction.{Instruction}
+use Rattle.checker.specs.declared.Instruction.the-variants as instruction
+use Rattle.activation.specs.Frames.{depthIn, prototypeIn, baseOf}
+use Rattle.fitness.specs.Fit.{State, fitOf, decodedAt}
+use Rattle.fitness.proofs.Tests.{and-left}
+use Rattle.reach.specs.Within.{Within}
+use Rattle.reach.proofs.Decoding.{decoded-within}
+use Rattle.vm.specs.Run.{answerOf, standingOf}
+use Rattle.vm.specs.declared.Outcome.{Outcome}
+use Rattle.vm.proofs.Runs.{fit-steady}
+use Rattle.machine.specs.Results.{named, returnedOf, isString, spanOf}
+use Rattle.machine.specs.declared.Span.{Span}
+use Rattle.machine.specs.declared.Span.the-variants.{At, Refused}
+
+-- p entries, c constants, k instructions and x bytes of texts are passed
+abbrev tops : ℕ → ℕ → ℕ → ℕ → Tops
+tops p c k x = record { entries = 1 + 4 * p; codes = k; consts = c; texts = x }
+
+-- ---- constant i of an image of q prototypes is a string
+
+module _ (S : Storage) (q i : ℕ) (string : getD (S .kinds) i 0 ≡ 4) (there : i < firstConstant (S .table) q) where
+  abbrev Inside : Type 0
+  Inside = getD (S .words) i 0 / 65536 + getD (S .words) i 0 % 65536 ≤ length (S .texts)
+
+  abbrev Lie : ℕ → ℕ → ℕ → ℕ → List F → Type 0
+  Lie p c k x fs = Stands (tops p c k x) (all (tops p c k x) fs) S
+
+  text-here : (p c k x : ℕ) (b : List ℕ) (fs : List F) → Lie p c k x (str b ∷ fs) → x ≤ length (S .texts) → x + length b ≤ length (S .texts)
+  unfolding textsAll textsOf
+  text-here p c k x b fs l h = at-within (S .texts) x b (at-first (S .texts) x b _ (l .texts)) h
+
+  here : (t : Tops) (b : List ℕ) → Constant t S 4 (t .texts * 65536 + length b) → length b ≤ 64 → t .texts + length b ≤ length (S .texts) → t .consts ≡ i → Inside
+  here t b e h a g =
+      let w : getD (S .words) i 0 ≡ t .texts * 65536 + length b = rw g at (e .word) in
+      let m : (t .texts * 65536 + length b) % 65536 ≡ length b = omega arith in
+      let d : (t .texts * 65536 + length b) / 65536 ≡ t .texts = omega arith in
+      rw (w, m, d) a
+
+  no-string : (t : Tops) (k w : ℕ) → Constant t S k w → k < 4 → t .consts ≡ i → Inside
+  no-string t k w e h g =
+      let z : getD (S .kinds) i 0 ≡ k = rw g at (e .kind) in
+      absurd (omega arith)
+
+  -- at the next constant, or later
+  at-or-on : (c : ℕ) → c ≤ i → (c ≡ i → Inside) → (c + 1 ≤ i → Inside) → Inside
+  at-or-on c h f g = test-cases (eqb c i) (λ e. f (eqb-true c i e)) (λ e. let n : c ≡ i → ⊥ = eqb-false c i e in g (omega arith))
+
+  inside-next :
+      {st u : Counts} {f : F} {fs : List F} → Told st f (On u) → Runs u q fs → Said f
+      → ((c k x : ℕ) → c ≤ i → x ≤ length (S .texts) → Lie (u .protos) c k x fs → Inside) → (c k x : ℕ) → c ≤ i → x ≤ length (S .texts)
+      → Lie (st .protos) c k x (f ∷ fs)
+      → Inside
+  unfolding past shape
+  inside-next {st} (opened {r} {p} a) h y ih c k x ci xt l =
+      let four : 1 + 4 * st .protos + 4 ≡ 1 + 4 * (st .protos + 1) = omega arith in
+      ih c k x ci xt (rw four at (lies-rest (tops (st .protos) c k x) (opens r p) _ S l))
+  inside-next {st} (word {k = tag} {w} a b) h y ih c k x ci xt l =
+      let t = tops (st .protos) c k x in
+      at-or-on c ci (no-string t tag w (word-seen t S h tag w l) (y .0))
+      (λ n. ih (c + 1) k x n xt (lies-rest t (const tag w) _ S l))
+  inside-next {st} (text {l = b} a d) h y ih c k x ci xt l =
+      let t = tops (st .protos) c k x in
+      let room = text-here (st .protos) c k x b _ l xt in
+      at-or-on c ci (here t b (text-seen t S h b l) (y .0) room)
+      (λ n. ih (c + 1) k (x + length b) n room (lies-rest t (str b) _ S l))
+  inside-next {st} (instruction {w} a) h y ih c k x ci xt l = ih c (k + 1) x ci xt (lies-rest (tops (st .protos) c k x) (code w) _ S l)
+
+  inside-last :
+      {st : Counts} {f : F} → Told st f Done → st .protos ≡ q → (c k x : ℕ) → c ≤ i → Lie (st .protos) c k x (f ∷ []) → Inside
+  inside-last {st} (ended {m} e) g c k x ci l =
+      let s = rw g at (end-seen (tops (st .protos) c k x) S m [] l .consts) in
+      absurd (omega arith)
+
+  inside-from :
+      {st : Counts} {fs : List F} → Runs st q fs → AllSaid fs → (c k x : ℕ) → c ≤ i → x ≤ length (S .texts) → Lie (st .protos) c k x fs → Inside
+  inside-from (last r e) ys c k x ci xt l = inside-last (told-as r) e c k x ci l
+  inside-from (next r h) (more y ys) c k x ci xt l =
+      inside-next (told-as r) h y (λ c k x ci xt l. inside-from h ys c k x ci xt l) c k x ci xt l
+
+-- ---- what is answered
+
+module _ (S : Storage) (word : ℕ) where
+  string-inside : readsBack S ≡ true → isString S word ≡ true → getD (S .words) word 0 / 65536 + getD (S .words) word 0 % 65536 ≤ length (S .texts)
+  unfolding isString
+  string-inside e s =
+      let r = readable S e in
+      let f = reads-frames r in
+      let below = ltb word (firstConstant (S .table) (prototypesOf (S .table))) in
+      let kind = eqb (getD (S .kinds) word 0) 4 in
+      inside-from S (prototypesOf (S .table)) word (eqb-true _ _ (and-right below kind s)) (ltb-true _ _ (and-left below kind s)) (f .runs)
+      (accepted-said (imageIn S) (r .count) (r .accepted)) 0 0 0 (omega arith) (omega arith) (f .lies)
+
+  abbrev Fine : Span → Type 0
+  Fine s = (from n : ℕ) → s ≡ At from n → from + n ≤ length (S .texts)
+
+  refused : (k : ℕ) → Fine (Refused k)
+  refused k from n e = let z : _≡_ {A = ℕ} 0 1 = cc in absurd (omega arith)
+
+  pub span-inside : Fine (spanOf S word)
+  unfolding spanOf
+  span-inside =
+      pick-cases Fine (longEnough S) _ _
+      (λ a. pick-cases Fine (readsBack S) _ _
+      (λ b. pick-cases Fine (isString S word) _ _
+      (λ c from n e. let h = string-inside b c in
+      let x : getD (S .words) word 0 / 65536 ≡ from = cc in
+      let y : getD (S .words) word 0 % 65536 ≡ n = cc in
+      omega arith)
+      (λ c. refused 20))
+      (λ b. refused 6))
+      (λ a. refused 5)
+
+-- ---- returned values
+
+module _ (l : Limits) (p : ℕ) (o : Outcome) where
+  named-inside : (i : Instruction) → Within l p i → (named o i) .first + (named o i) .count ≤ l .registers
+  unfolding named
+  named-inside (instruction.Unary u d s) h = omega arith
+  named-inside (instruction.LoadConstant d c) h = omega arith
+  named-inside (instruction.LoadBool d b n) h = omega arith
+  named-inside (instruction.LoadNil d n) h = omega arith
+  named-inside (instruction.Call f a r) h = omega arith
+  named-inside (instruction.Return s n) h = h
+  named-inside (instruction.Jump t) h = omega arith
+  named-inside (instruction.Test r b) h = omega arith
+  named-inside (instruction.TestSet d r b) h = omega arith
+  named-inside (instruction.Closure d q) h = omega arith
+  named-inside (instruction.NumericForPrep b t) h = omega arith
+  named-inside (instruction.NumericForLoop b t) h = omega arith
+  named-inside (instruction.Compare c b x y) h = omega arith
+  named-inside (instruction.Binary b d x y) h = omega arith
+  named-inside (instruction.Bad n) h = omega arith
+
+-- the innermost window ends where the last one does
+last-window : (table frames : List ℕ) (d : ℕ) → 1 ≤ d → registersOf table (prototypeIn frames (d - 1)) ≤ baseOf table frames d
+unfolding baseOf
+last-window table frames zero h = absurd (omega arith)
+last-window table frames (suc d) h = let e : suc d - 1 ≡ d = omega arith in rw e (omega arith)
+
+module _ (S : Storage) (s : State) where
+  standing-window : (standingOf S s) .number ≡ 0 → registersOf (S .table) ((standingOf S s) .prototype) ≤ 2048
+  unfolding standingOf answerOf
+  standing-window =
+      test-cases (fitOf S s)
+      (λ f. rw f (λ n. let y = fit-steady S s f in
+      omega (arith, y .ends, last-window (S .table) (s .frames) (depthIn (s .frames)) (y .some))))
+      (λ f. rw f (λ n. absurd (omega arith)))
+
+  pub values-inside : (returnedOf S s) .first + (returnedOf S s) .count ≤ 2048
+  unfolding returnedOf
+  values-inside =
+      let o = standingOf S s in
+      test-cases (eqb (o .number) 0)
+      (λ n. rw n (omega (arith, named-inside (limitsOf (S .table) (o .prototype)) (o .instruction) o (decodedAt (S .table) (S .code) (o .prototype) (o .instruction)) (decoded-within (S .table) (S .code) (o .prototype) (o .instruction)), standing-window (eqb-true _ _ n))))
+      (λ n. rw n (omega arith))

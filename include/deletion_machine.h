@@ -1,0 +1,192 @@
+/* The deletion machine: reads an image, checks it, and runs it in parts.
+ *
+ *     rt staticlib machine        makes target/staticlib/libmachine.a, for x86-64 Linux
+ *     cc host.c libmachine.a -lm  links it
+ *
+ * What is lent. A slice is a pointer and a length in elements. All memory is the host's: nothing is allocated, nothing is
+ * kept between two calls, and no call waits. STORAGE is where an image is read to, STATE is a machine; both are plain data,
+ * may be copied and stored, and hold no pointers. A slice may be longer than its size below; what lies beyond what a function
+ * writes is unchanged. Slices that one call writes must not overlap another slice of that call, and every pointer must
+ * be good for its length (and not null, also where the length is 0).
+ *
+ * What is answered. Every function returns a number (enum dm_number) and writes to `answer`, which has at least DM_ANSWER
+ * elements:
+ *
+ *     answer[0]  the number again
+ *     answer[1]  the instructions carried out by this call; 0 outside runs
+ *     answer[2]  the prototype  } of the instruction that returned, raised, faulted, was refused or comes next;
+ *     answer[3]  the instruction} for dm_read the line; 0 where nothing of the kind is at fault
+ *     answer[4], answer[5]      as the function says; else unchanged
+ *
+ * answer[6] and all beyond stay as they are. Where `answer` is shorter than DM_ANSWER the number is 5, of dm_run and
+ * dm_returned 60, and nothing at all is touched. Where 5 or 6 is answered, everything lent but `answer` is untouched.
+ *
+ * Contents don't matter for safety: whatever bytes the slices hold, each call ends with one of the numbers. What each
+ * function answers and leaves, for any input, is proved; crates/machine/specs/Face.antt has the definitions. */
+#ifndef DELETION_MACHINE_H
+#define DELETION_MACHINE_H
+
+#include <stddef.h>
+#include <stdint.h>
+
+#ifdef __cplusplus
+extern "C" {
+#endif
+
+/* ---- sizes, in elements: how long the slices have to be ---- */
+
+#define DM_TABLE 133       /* uint64_t table       STORAGE: the prototypes */
+#define DM_CODE 5041       /* uint64_t code                 the instructions */
+#define DM_CONSTANTS 8448  /* uint8_t  const_kinds, uint64_t const_words: the constants */
+#define DM_TEXTS 32768     /* uint8_t  texts                the strings' bytes */
+#define DM_FRAMES 34       /* uint64_t frames      STATE:   the mark and the activations */
+#define DM_REGISTERS 2308  /* uint8_t  kinds, uint64_t words: the registers */
+#define DM_ANSWER 8        /* uint32_t answer */
+#define DM_IMAGE 65536     /* the longest image, in bytes; also an output that any image fits */
+#define DM_ARGUMENTS 8     /* the most arguments */
+
+/* ---- a value: a kind and a word ---- */
+
+enum dm_kind {
+    DM_NIL = 0,      /* word 0 */
+    DM_BOOLEAN = 1,  /* word 0 or 1 */
+    DM_INTEGER = 2,  /* the 64 bits of a signed integer */
+    DM_NUMBER = 3,   /* the 64 bits of a double */
+    DM_STRING = 4,   /* the number of its constant in the whole image: see dm_text */
+    DM_FUNCTION = 5  /* its prototype */
+};
+
+/* ---- the numbers ---- */
+
+enum dm_number {
+    DM_DONE = 0,                /* the machine has finished; outside runs: nothing refused */
+
+    DM_BAD_LINE = 1,            /* reading: a line is empty, not paired lowercase hexadecimal, or lacks LF */
+    DM_BAD_FRAME = 2,           /* reading: unknown kind, wrong length, tag, order or field; e0's count is wrong */
+    DM_TOO_MANY = 3,            /* reading: too many bytes, prototypes, constants or instructions */
+    DM_BAD_END = 4,             /* reading: no e0 at the end, or a byte after it */
+    DM_TOO_SHORT = 5,           /* storage, state, output or answer is too short */
+    DM_NO_IMAGE = 6,            /* no image reads to this storage */
+
+    DM_BAD_OPERATION = 10,      /* checker: operation not carried, a count of 255, or a Jump that closes */
+    DM_BAD_BYTE = 11,           /* checker: an unused byte or flag is not 0, a yes/no byte is above 1 */
+    DM_BAD_REGISTER = 12,       /* checker */
+    DM_BAD_CONSTANT = 13,       /* checker */
+    DM_BAD_TARGET = 14,         /* checker */
+    DM_BAD_PROTOTYPE = 15,      /* checker: a Closure's prototype is not there, or there is none at all */
+
+    DM_BAD_ARGUMENT = 20,       /* start: more than 8, or one not nil, boolean, integer or number; dm_text: no string */
+
+    DM_ERROR_ADD = 30,          /* Lua errors: an operand is unfit */
+    DM_ERROR_SUBTRACT = 31,
+    DM_ERROR_MULTIPLY = 32,
+    DM_ERROR_FLOAT_DIVIDE = 33,
+    DM_ERROR_FLOOR_DIVIDE = 34,
+    DM_ERROR_MODULO = 35,
+    DM_ERROR_NEGATE = 36,
+    DM_ERROR_BIT_AND = 37,
+    DM_ERROR_BIT_OR = 38,
+    DM_ERROR_BIT_XOR = 39,
+    DM_ERROR_BIT_NOT = 40,
+    DM_ERROR_SHIFT_LEFT = 41,
+    DM_ERROR_SHIFT_RIGHT = 42,
+    DM_ERROR_LESS = 43,
+    DM_ERROR_LESS_EQUAL = 44,
+    DM_ERROR_NO_FUNCTION = 50,  /* Call of a value that is no function */
+    DM_ERROR_CALLS = 51,        /* Call with 16 live activations */
+    DM_ERROR_REGISTERS = 52,    /* Call that would pass 2,048 registers */
+
+    DM_FAULT = 60,              /* an unfit state, or an instruction that breaks a rule; not after a start that was not refused */
+    DM_BUDGET = 70              /* the budget is used, and the machine still runs */
+};
+
+/* ---- what to lend, for a host that has nothing against static sizes ---- */
+
+typedef struct dm_storage {
+    uint64_t table[DM_TABLE];
+    uint64_t code[DM_CODE];
+    uint8_t const_kinds[DM_CONSTANTS];
+    uint64_t const_words[DM_CONSTANTS];
+    uint8_t texts[DM_TEXTS];
+} dm_storage;
+
+typedef struct dm_state {
+    uint64_t frames[DM_FRAMES];
+    uint8_t kinds[DM_REGISTERS];
+    uint64_t words[DM_REGISTERS];
+} dm_state;
+
+/* the arguments for them: dm_check(DM_STORAGE(&storage), answer, DM_ANSWER) */
+#define DM_STORAGE(s) \
+    (s)->table, DM_TABLE, (s)->code, DM_CODE, (s)->const_kinds, DM_CONSTANTS, (s)->const_words, DM_CONSTANTS, (s)->texts, DM_TEXTS
+#define DM_STATE(s) (s)->frames, DM_FRAMES, (s)->kinds, DM_REGISTERS, (s)->words, DM_REGISTERS
+
+/* ---- an image ---- */
+
+/* Reads an image into STORAGE. 0; 5; 3 for the image's length; 1 to 4 at a line. A refusal leaves STORAGE untouched. */
+uint32_t dm_read(const uint8_t *image, size_t image_length,
+                 uint64_t *table, size_t table_length, uint64_t *code, size_t code_length,
+                 uint8_t *const_kinds, size_t const_kinds_length, uint64_t *const_words, size_t const_words_length,
+                 uint8_t *texts, size_t texts_length,
+                 uint32_t *answer, size_t answer_length);
+
+/* Writes STORAGE's image to the front of `out`. answer[4]: how many bytes, 0 where refused. 0; 5 for STORAGE; 6; 5 where
+ * `out` is shorter than the image. A refusal leaves `out` untouched. */
+uint32_t dm_write(const uint64_t *table, size_t table_length, const uint64_t *code, size_t code_length,
+                  const uint8_t *const_kinds, size_t const_kinds_length, const uint64_t *const_words, size_t const_words_length,
+                  const uint8_t *texts, size_t texts_length,
+                  uint8_t *out, size_t out_length,
+                  uint32_t *answer, size_t answer_length);
+
+/* Whether the machine carries the image out without a fault: 0; 5; 6; 10 to 15 at the first bad instruction. */
+uint32_t dm_check(const uint64_t *table, size_t table_length, const uint64_t *code, size_t code_length,
+                  const uint8_t *const_kinds, size_t const_kinds_length, const uint64_t *const_words, size_t const_words_length,
+                  const uint8_t *texts, size_t texts_length,
+                  uint32_t *answer, size_t answer_length);
+
+/* ---- a machine ---- */
+
+/* Starts a machine on prototype 0, with the arguments arg_kinds[i], arg_words[i]; where one of the two is missing it is no
+ * value. It checks the image itself. 0; 5; 6; 10 to 15; 20. Only the window of prototype 0 and its activation are
+ * written; a refusal leaves STATE untouched. */
+uint32_t dm_start(const uint64_t *table, size_t table_length, const uint64_t *code, size_t code_length,
+                  const uint8_t *const_kinds, size_t const_kinds_length, const uint64_t *const_words, size_t const_words_length,
+                  const uint8_t *texts, size_t texts_length,
+                  uint64_t *frames, size_t frames_length, uint8_t *kinds, size_t kinds_length, uint64_t *words, size_t words_length,
+                  const uint8_t *arg_kinds, size_t arg_kinds_length, const uint64_t *arg_words, size_t arg_words_length,
+                  uint32_t *answer, size_t answer_length);
+
+/* Carries out at most `budget` instructions. 70: call it again to go on; a, then b, is the same as a + b. 0: finished,
+ * dm_returned tells where the values are. 30 to 52: a Lua error. 60: the state is not fit to run (then it is
+ * untouched), or the next instruction breaks a rule. A finished or failed machine gives its answer again. */
+uint32_t dm_run(const uint64_t *table, size_t table_length, const uint64_t *code, size_t code_length,
+                const uint8_t *const_kinds, size_t const_kinds_length, const uint64_t *const_words, size_t const_words_length,
+                const uint8_t *texts, size_t texts_length,
+                uint64_t *frames, size_t frames_length, uint8_t *kinds, size_t kinds_length, uint64_t *words, size_t words_length,
+                uint32_t budget,
+                uint32_t *answer, size_t answer_length);
+
+/* ---- results ---- */
+
+/* What dm_run on no budget answers; it changes nothing but `answer`. Of a finished machine (0) answer[4] is the first
+ * register and answer[5] how many values it returned: kinds[answer[4] + i], words[answer[4] + i]. Of any other both are 0. */
+uint32_t dm_returned(const uint64_t *table, size_t table_length, const uint64_t *code, size_t code_length,
+                     const uint8_t *const_kinds, size_t const_kinds_length, const uint64_t *const_words, size_t const_words_length,
+                     const uint8_t *texts, size_t texts_length,
+                     const uint64_t *frames, size_t frames_length, const uint8_t *kinds, size_t kinds_length,
+                     const uint64_t *words, size_t words_length,
+                     uint32_t *answer, size_t answer_length);
+
+/* The bytes of a string; `word` is a register's word where its kind is DM_STRING. They begin at texts[answer[4]] and are
+ * answer[5] many, inside `texts`; both are 0 where refused. 0; 5; 6; 20 where `word` names no string of this image. */
+uint32_t dm_text(const uint64_t *table, size_t table_length, const uint64_t *code, size_t code_length,
+                 const uint8_t *const_kinds, size_t const_kinds_length, const uint64_t *const_words, size_t const_words_length,
+                 const uint8_t *texts, size_t texts_length,
+                 uint64_t word,
+                 uint32_t *answer, size_t answer_length);
+
+#ifdef __cplusplus
+}
+#endif
+
+#endif
