@@ -1,4 +1,8 @@
--- Laws of the machine's turns, steps and runs.
+-- Laws of the machine's steps and runs, and of the quick loop.
 pub mod Turns
 pub mod Steps
 pub mod Runs
+pub mod Pairs
+pub mod Arms
+pub mod Quickly
+pub mod Hurried
