@@ -1,0 +1,51 @@
+//! Links the machine's static library: the one that DELETION_MACHINE_LIB names, else the one that `tools/staticlib`
+//! of the repository makes, or has made before, for the machine that is compiled for.
+
+use std::env;
+use std::path::{Path, PathBuf};
+use std::process::{Command, Stdio};
+
+fn main() {
+    println!("cargo:rerun-if-changed=build.rs");
+    println!("cargo:rerun-if-env-changed=DELETION_MACHINE_LIB");
+    let archive = match env::var_os("DELETION_MACHINE_LIB") {
+        Some(path) => PathBuf::from(path),
+        None => made(),
+    };
+    if !archive.is_file() {
+        panic!("there is no static library at {}", archive.display());
+    }
+    println!("cargo:rerun-if-changed={}", archive.display());
+    // The linker takes libNAME.a for NAME, from the folder that the archive is in.
+    let name = archive
+        .file_name()
+        .and_then(|name| name.to_str())
+        .and_then(|name| name.strip_prefix("lib"))
+        .and_then(|name| name.strip_suffix(".a"))
+        .unwrap_or_else(|| panic!("{} is not named lib*.a", archive.display()));
+    let folder = archive.parent().unwrap_or_else(|| Path::new("."));
+    println!("cargo:rustc-link-search=native={}", folder.display());
+    println!("cargo:rustc-link-lib=static={name}");
+    // fmod
+    println!("cargo:rustc-link-lib=m");
+}
+
+/// Has `tools/staticlib` prove and make the library; it prints the archive's path. What is there already and still
+/// current it leaves as it is.
+fn made() -> PathBuf {
+    let top = Path::new(env!("CARGO_MANIFEST_DIR")).join("..");
+    let script = top.join("tools/staticlib");
+    println!("cargo:rerun-if-changed={}", script.display());
+    println!("cargo:rerun-if-changed={}", top.join("crates").display());
+    let kind = env::var("CARGO_CFG_TARGET_ARCH").expect("cargo sets CARGO_CFG_TARGET_ARCH");
+    let output = Command::new(&script)
+        .arg(kind)
+        .stderr(Stdio::inherit())
+        .output()
+        .unwrap_or_else(|error| panic!("cannot run {}: {error}", script.display()));
+    if !output.status.success() {
+        panic!("{} failed: {}", script.display(), output.status);
+    }
+    let path = String::from_utf8(output.stdout).expect("a path in UTF-8");
+    PathBuf::from(path.trim_end())
+}

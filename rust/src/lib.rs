@@ -1,0 +1,70 @@
+//! Reads, checks and runs the images of retention rules on the deletion machine.
+//!
+//! The machine itself is a static library, proved to do what its definitions say (`docs/PROMISES.md` of the
+//! repository); this package is a thin, safe face of it. An [`Image`] is what a rule was compiled to. A [`Machine`]
+//! runs one, a budget of instructions at a time, and can be paused, put away and resumed between any two of them.
+//!
+//! ```
+//! use deletion_machine::{Image, Machine, Outcome, Value};
+//!
+//! let text = b"a00100\nb0020000000000000007\nc00100000000\nc00c00000100\ne001\n";
+//! let image = Image::read(text)?;
+//! let mut machine = Machine::start(&image, &[])?;
+//!
+//! let answer = machine.run(1_000_000);
+//! assert_eq!(answer.outcome, Outcome::Finished);
+//! assert_eq!(answer.count, 2);
+//! assert_eq!(machine.values(), [Value::Integer(7)]);
+//! # Ok::<(), Box<dyn std::error::Error>>(())
+//! ```
+//!
+//! Whatever the bytes are, nothing here stops the process: an image that is wrong is refused with a number that says
+//! what it was and a place that says where, and a run ends by its budget. Each error is one of these numbers;
+//! `number()` tells it, and its text says what the number says.
+//!
+//! The library keeps nothing between calls, so any number of machines may run at once, on any threads, and several
+//! may share an image:
+//!
+//! ```
+//! # use deletion_machine::{Image, Machine, Value};
+//! # let text = b"a00201\nb0020000000000000001\nc02102000000\nc00c00000100\ne001\n";
+//! let image = Image::read(text)?; // one more than its argument
+//! std::thread::scope(|scope| {
+//!     for years in 0..4 {
+//!         let image = &image;
+//!         scope.spawn(move || {
+//!             let mut machine = Machine::start(image, &[years.into()]).unwrap();
+//!             machine.run(1_000);
+//!             assert_eq!(machine.values(), [Value::Integer(years + 1)]);
+//!         });
+//!     }
+//! });
+//! # Ok::<(), Box<dyn std::error::Error>>(())
+//! ```
+
+#![deny(unsafe_code)]
+#![warn(missing_docs)]
+
+#[allow(unsafe_code)]
+mod ffi;
+mod image;
+mod machine;
+mod value;
+
+pub use image::{CheckError, Image, Place, ReadError, IMAGE_BYTES};
+pub use machine::{Answer, LuaError, Machine, Outcome, StartError, State, ARGUMENTS};
+pub use value::Value;
+
+/// Has the tests try the example there.
+#[cfg(doctest)]
+#[doc = include_str!("../README.md")]
+struct Readme;
+
+/// The static library gave a number that no function of it gives there: it is not the one that this package was
+/// written for. (5 and 6 are never met: what is lent is long enough, and only what was read is run.)
+#[cold]
+fn unknown(number: u32) -> ! {
+    panic!(
+        "the static library answered {number}, which this version of deletion-machine doesn't know"
+    )
+}

@@ -1,0 +1,364 @@
+use crate::ffi::{self, Told};
+use crate::image::{CheckError, Image, Place};
+use crate::value::Value;
+use std::error::Error;
+use std::fmt;
+
+/// The most arguments that a machine is started with.
+pub const ARGUMENTS: usize = 8;
+
+/// A machine that runs an image. It owns its state, about 20 kilobytes, and borrows the image.
+#[derive(Clone, Debug)]
+pub struct Machine<'image> {
+    image: &'image Image,
+    state: State,
+}
+
+impl<'image> Machine<'image> {
+    /// Starts a machine at the image's first prototype, with arguments for its parameters: at most [`ARGUMENTS`], each
+    /// nil, a boolean, an integer or a number. Missing ones are nil, surplus ones drop. The image is checked first.
+    ///
+    /// ```
+    /// use deletion_machine::{Image, Machine, StartError, Value};
+    ///
+    /// let image = Image::read(b"a00101\nc00c00000100\ne001\n")?; // returns its argument
+    /// assert!(Machine::start(&image, &[Value::Integer(10)]).is_ok());
+    /// let error = Machine::start(&image, &[Value::String(b"ten")]).unwrap_err();
+    /// assert_eq!(error, StartError::Arguments);
+    /// # Ok::<(), deletion_machine::ReadError>(())
+    /// ```
+    pub fn start(
+        image: &'image Image,
+        arguments: &[Value<'_>],
+    ) -> Result<Machine<'image>, StartError> {
+        let (kinds, words): (Vec<u8>, Vec<u64>) =
+            arguments.iter().map(|value| value.as_argument()).unzip();
+        let mut state = State::empty();
+        let told = ffi::start(image.storage(), &mut state, &kinds, &words);
+        match told.number {
+            0 => Ok(Machine { image, state }),
+            20 => Err(StartError::Arguments),
+            number => match CheckError::told(&told) {
+                Some(error) => Err(StartError::Check(error)),
+                None => crate::unknown(number),
+            },
+        }
+    }
+
+    /// Goes on with a machine that was put away. Any state is taken: where it is no state of a machine on this image,
+    /// each run answers [`Outcome::Fault`] and changes nothing.
+    ///
+    /// ```
+    /// use deletion_machine::{Image, Machine, Outcome};
+    ///
+    /// let image = Image::read(b"a00100\nc00300000100\nc00c00000000\ne001\n")?;
+    /// let mut machine = Machine::start(&image, &[])?;
+    /// assert_eq!(machine.run(1).outcome, Outcome::Paused);
+    /// let state = machine.into_state();
+    ///
+    /// // later, elsewhere
+    /// let mut machine = Machine::resume(&image, state);
+    /// assert_eq!(machine.run(1).outcome, Outcome::Finished);
+    /// # Ok::<(), Box<dyn std::error::Error>>(())
+    /// ```
+    pub fn resume(image: &'image Image, state: State) -> Machine<'image> {
+        Machine { image, state }
+    }
+
+    /// Carries out instructions until the machine is finished, fails, or has carried out `budget` of them. A finished or
+    /// failed machine answers the same again, with count 0.
+    ///
+    /// Parts don't matter: a run of `a`, then one of `b`, leave the state and give the outcome and the place of one
+    /// run of `a + b`, and their counts add up to its count.
+    pub fn run(&mut self, budget: u32) -> Answer {
+        Answer::told(&ffi::run(self.image.storage(), &mut self.state, budget))
+    }
+
+    /// What a run on budget 0 would answer.
+    pub fn standing(&self) -> Answer {
+        Answer::told(&ffi::returned(self.image.storage(), &self.state))
+    }
+
+    /// What a finished machine returned; nothing of any other.
+    pub fn values(&self) -> Vec<Value<'image>> {
+        let told = ffi::returned(self.image.storage(), &self.state);
+        let registers = told.first..told.first + told.second;
+        registers.map(|register| self.value(register)).collect()
+    }
+
+    /// What a live register of the outermost activation holds.
+    fn value(&self, register: usize) -> Value<'image> {
+        let word = self.state.words[register];
+        match self.state.kinds[register] {
+            0 => Value::Nil,
+            1 => Value::Boolean(word != 0),
+            2 => Value::Integer(word as i64),
+            3 => Value::Number(f64::from_bits(word)),
+            4 => Value::String(self.image.string(word)),
+            5 => Value::Function(word as usize),
+            kind => {
+                unreachable!("a live register of a fit state has a kind up to 5, and not {kind}")
+            }
+        }
+    }
+
+    /// The image that it runs.
+    pub fn image(&self) -> &'image Image {
+        self.image
+    }
+
+    /// Its state, to look at or to put away.
+    pub fn state(&self) -> &State {
+        &self.state
+    }
+
+    /// Its state, to put away.
+    pub fn into_state(self) -> State {
+        self.state
+    }
+}
+
+/// A machine's state, to be put away and resumed ([`Machine::resume`]). It holds no pointer, so it may be stored and
+/// sent. Nothing is assumed of one that comes back.
+#[derive(Clone, Debug, PartialEq, Eq)]
+pub struct State {
+    /// The mark (70 while the machine runs, 0 when it is finished, else its Lua error's number), the number of
+    /// activations, and for each its prototype and instruction.
+    pub frames: Vec<u64>,
+    /// The kind of each register's value: 0 nil, 1 boolean, 2 integer, 3 number, 4 string, 5 function.
+    pub kinds: Vec<u8>,
+    /// The word of each register's value: its 64 bits; of a string the number of its constant in the image, of a
+    /// function its prototype.
+    pub words: Vec<u64>,
+}
+
+/// What a run answers.
+#[derive(Clone, Copy, Debug, PartialEq, Eq, Hash)]
+pub struct Answer {
+    /// How the run ended.
+    pub outcome: Outcome,
+    /// How many instructions it carried out, the one that returned or raised too.
+    pub count: u32,
+    /// The instruction that returned, raised or faulted; of a pause the next one.
+    pub place: Place,
+}
+
+impl Answer {
+    fn told(told: &Told) -> Answer {
+        let outcome = match told.number {
+            0 => Outcome::Finished,
+            60 => Outcome::Fault,
+            70 => Outcome::Paused,
+            number => match LuaError::told(number) {
+                Some(error) => Outcome::Failed(error),
+                None => crate::unknown(number),
+            },
+        };
+        Answer {
+            outcome,
+            count: told.count,
+            place: Place::told(told),
+        }
+    }
+}
+
+impl fmt::Display for Answer {
+    fn fmt(&self, f: &mut fmt::Formatter<'_>) -> fmt::Result {
+        let Answer {
+            outcome,
+            count,
+            place,
+        } = self;
+        write!(f, "{place}: {outcome} ({count} instructions)")
+    }
+}
+
+/// How a run ended.
+#[derive(Clone, Copy, Debug, PartialEq, Eq, Hash)]
+pub enum Outcome {
+    /// 0: the outermost Return is done; [`Machine::values`] has what it returned.
+    Finished,
+    /// 30 to 44, 50 to 52: the rule did what Lua forbids, or went too deep.
+    Failed(LuaError),
+    /// 70: the budget is used, and the machine still runs.
+    Paused,
+    /// 60: the state is none of a machine on this image. A machine that was started here never answers it; one that
+    /// was resumed may, where its state or image was damaged or mixed up.
+    Fault,
+}
+
+impl Outcome {
+    /// The number that the machine answers.
+    pub fn number(&self) -> u8 {
+        match self {
+            Outcome::Finished => 0,
+            Outcome::Failed(error) => error.number(),
+            Outcome::Paused => 70,
+            Outcome::Fault => 60,
+        }
+    }
+}
+
+impl fmt::Display for Outcome {
+    fn fmt(&self, f: &mut fmt::Formatter<'_>) -> fmt::Result {
+        match self {
+            Outcome::Finished => write!(f, "finished"),
+            Outcome::Failed(error) => write!(f, "{error}"),
+            Outcome::Paused => write!(f, "paused, its budget is used"),
+            Outcome::Fault => write!(f, "machine fault, the state doesn't fit the image"),
+        }
+    }
+}
+
+/// Why a machine isn't started.
+#[derive(Clone, Copy, Debug, PartialEq, Eq, Hash)]
+pub enum StartError {
+    /// 10 to 15: the image can't be carried out.
+    Check(CheckError),
+    /// 20: more than [`ARGUMENTS`] arguments, or one that is not nil, a boolean, an integer or a number.
+    Arguments,
+}
+
+impl StartError {
+    /// The number that the machine answers: 10 to 15, or 20.
+    pub fn number(&self) -> u8 {
+        match self {
+            StartError::Check(error) => error.number(),
+            StartError::Arguments => 20,
+        }
+    }
+}
+
+impl fmt::Display for StartError {
+    fn fmt(&self, f: &mut fmt::Formatter<'_>) -> fmt::Result {
+        match self {
+            StartError::Check(error) => error.fmt(f),
+            StartError::Arguments => write!(
+                f,
+                "more than {ARGUMENTS} arguments, or one that is not nil, a boolean, an integer or a number"
+            ),
+        }
+    }
+}
+
+impl Error for StartError {
+    fn source(&self) -> Option<&(dyn Error + 'static)> {
+        match self {
+            // its text is this one's
+            StartError::Check(error) => error.source(),
+            StartError::Arguments => None,
+        }
+    }
+}
+
+/// What a rule did wrong. The answer's place says which instruction did it, and the state is as it was before it.
+#[derive(Clone, Copy, Debug, PartialEq, Eq, Hash)]
+#[repr(u8)]
+pub enum LuaError {
+    /// 30: `+`, or the controls of a numeric `for`.
+    Add = 30,
+    /// 31: `-` with two operands, or the start and step of a numeric `for`.
+    Subtract = 31,
+    /// 32: `*`.
+    Multiply = 32,
+    /// 33: `/`.
+    FloatDivide = 33,
+    /// 34: `//`; also of an integer by the integer 0.
+    FloorDivide = 34,
+    /// 35: `%`; also of an integer by the integer 0.
+    Modulo = 35,
+    /// 36: `-` with one operand.
+    UnaryNegate = 36,
+    /// 37: `&`.
+    BitAnd = 37,
+    /// 38: `|`.
+    BitOr = 38,
+    /// 39: `~` with two operands.
+    BitXor = 39,
+    /// 40: `~` with one operand.
+    BitNot = 40,
+    /// 41: `<<`.
+    ShiftLeft = 41,
+    /// 42: `>>`.
+    ShiftRight = 42,
+    /// 43: `<` or `>`.
+    LessThan = 43,
+    /// 44: `<=` or `>=`.
+    LessEqual = 44,
+    /// 50: a call of a value that is no function.
+    NotAFunction = 50,
+    /// 51: a call with 16 activations live.
+    TooDeep = 51,
+    /// 52: a call that would pass 2,048 registers in all live windows.
+    TooManyRegisters = 52,
+}
+
+impl LuaError {
+    /// Every one of them, in the order of the numbers.
+    pub const ALL: [LuaError; 18] = [
+        LuaError::Add,
+        LuaError::Subtract,
+        LuaError::Multiply,
+        LuaError::FloatDivide,
+        LuaError::FloorDivide,
+        LuaError::Modulo,
+        LuaError::UnaryNegate,
+        LuaError::BitAnd,
+        LuaError::BitOr,
+        LuaError::BitXor,
+        LuaError::BitNot,
+        LuaError::ShiftLeft,
+        LuaError::ShiftRight,
+        LuaError::LessThan,
+        LuaError::LessEqual,
+        LuaError::NotAFunction,
+        LuaError::TooDeep,
+        LuaError::TooManyRegisters,
+    ];
+
+    fn told(number: u32) -> Option<LuaError> {
+        Self::ALL
+            .into_iter()
+            .find(|error| u32::from(error.number()) == number)
+    }
+
+    /// The number that the machine answers: 30 to 44, 50 to 52.
+    pub fn number(&self) -> u8 {
+        *self as u8
+    }
+}
+
+impl fmt::Display for LuaError {
+    fn fmt(&self, f: &mut fmt::Formatter<'_>) -> fmt::Result {
+        f.write_str(match self {
+            LuaError::Add => "+, or a for loop: an operand is not a number",
+            LuaError::Subtract => "-, or the start of a for loop: an operand is not a number",
+            LuaError::Multiply => "*: an operand is not a number",
+            LuaError::FloatDivide => "/: an operand is not a number",
+            LuaError::FloorDivide => "//: an operand is not a number, or integers are divided by 0",
+            LuaError::Modulo => "%: an operand is not a number, or integers are divided by 0",
+            LuaError::UnaryNegate => "- with one operand: it is not a number",
+            LuaError::BitAnd => "&: an operand is not an integer, nor a number that equals one",
+            LuaError::BitOr => "|: an operand is not an integer, nor a number that equals one",
+            LuaError::BitXor => {
+                "~ with two operands: one is not an integer, nor a number that equals one"
+            }
+            LuaError::BitNot => {
+                "~ with one operand: it is not an integer, nor a number that equals one"
+            }
+            LuaError::ShiftLeft => "<<: an operand is not an integer, nor a number that equals one",
+            LuaError::ShiftRight => {
+                ">>: an operand is not an integer, nor a number that equals one"
+            }
+            LuaError::LessThan => "< or >: the operands are neither two numbers nor two strings",
+            LuaError::LessEqual => "<= or >=: the operands are neither two numbers nor two strings",
+            LuaError::NotAFunction => "a call of a value that is not a function",
+            LuaError::TooDeep => "a call too deep: 16 functions are active already",
+            LuaError::TooManyRegisters => {
+                "a call too deep: the active functions would have more than 2048 registers"
+            }
+        })
+    }
+}
+
+impl Error for LuaError {}

@@ -1,0 +1,120 @@
+//! What the tests share: the program of document 01 as a host would write it, images in pieces, and random numbers.
+#![allow(dead_code)]
+
+use deletion_machine::{Answer, Image, Machine, Outcome, StartError, Value};
+use std::fmt::Write;
+use std::path::PathBuf;
+
+/// The budget of document 01's program.
+pub const BUDGET: u32 = 1_000_000;
+
+/// An image of these lines.
+pub fn text<S: AsRef<str>>(lines: &[S]) -> Vec<u8> {
+    lines
+        .iter()
+        .flat_map(|line| [line.as_ref(), "\n"])
+        .collect::<String>()
+        .into_bytes()
+}
+
+/// An image of these lines, read.
+pub fn image<S: AsRef<str>>(lines: &[S]) -> Image {
+    Image::read(&text(lines)).expect("the test's image reads")
+}
+
+/// A line of an integer constant.
+pub fn integer(i: i64) -> String {
+    format!("b002{i:016x}")
+}
+
+/// The rules of the repository's `examples`: name, image, and the lines that the program writes for it.
+pub fn rules() -> Vec<(&'static str, Vec<u8>, String)> {
+    let folder = PathBuf::from(concat!(env!("CARGO_MANIFEST_DIR"), "/../examples"));
+    let file = |name: String| {
+        let path = folder.join(name);
+        std::fs::read(&path).unwrap_or_else(|error| panic!("{}: {error}", path.display()))
+    };
+    ["seven-years", "by-class", "thin-backups"]
+        .into_iter()
+        .map(|name| {
+            let result = String::from_utf8(file(format!("{name}.result"))).unwrap();
+            (name, file(format!("{name}.image")), result)
+        })
+        .collect()
+}
+
+/// The first line that the program writes: answer, count, prototype, and instruction or line.
+pub fn f0(number: u8, count: u32, prototype: usize, instruction: usize) -> String {
+    format!("f0{number:02x}{count:08x}{prototype:02x}{instruction:04x}\n")
+}
+
+/// The line that the program writes for a returned value.
+pub fn b0(value: &Value<'_>) -> String {
+    let mut line = String::from("b0");
+    match value {
+        Value::Nil => line.push_str("00"),
+        Value::Boolean(b) => write!(line, "01{:02x}", *b as u8).unwrap(),
+        Value::Integer(i) => write!(line, "02{i:016x}").unwrap(),
+        Value::Number(x) => write!(line, "03{:016x}", x.to_bits()).unwrap(),
+        Value::String(bytes) => {
+            line.push_str("04");
+            for byte in *bytes {
+                write!(line, "{byte:02x}").unwrap();
+            }
+        }
+        Value::Function(prototype) => write!(line, "05{prototype:02x}").unwrap(),
+    }
+    line.push('\n');
+    line
+}
+
+/// What the program writes for a machine's answer.
+pub fn output(answer: &Answer, machine: &Machine<'_>) -> String {
+    let place = answer.place;
+    let mut out = f0(
+        answer.outcome.number(),
+        answer.count,
+        place.prototype,
+        place.instruction,
+    );
+    if answer.outcome == Outcome::Finished {
+        out.extend(machine.values().iter().map(b0));
+    }
+    out
+}
+
+/// What the program writes for an image.
+pub fn program(text: &[u8]) -> String {
+    let image = match Image::read(text) {
+        Ok(image) => image,
+        Err(error) => return f0(error.number(), 0, 0, error.line()),
+    };
+    let mut machine = match Machine::start(&image, &[]) {
+        Ok(machine) => machine,
+        Err(StartError::Check(error)) => {
+            let place = error.place();
+            return f0(error.number(), 0, place.prototype, place.instruction);
+        }
+        Err(StartError::Arguments) => unreachable!("there are none"),
+    };
+    let answer = machine.run(BUDGET);
+    output(&answer, &machine)
+}
+
+/// Random numbers, the same in every run: xorshift64*.
+pub struct Random(u64);
+
+impl Random {
+    pub fn new(seed: u64) -> Random {
+        Random(seed | 1)
+    }
+
+    /// From 0 to `most`.
+    pub fn up_to(&mut self, most: u32) -> u32 {
+        self.0 ^= self.0 >> 12;
+        self.0 ^= self.0 << 25;
+        self.0 ^= self.0 >> 27;
+        let high = self.0.wrapping_mul(0x2545_f491_4f6c_dd1d) >> 32;
+        (high % (u64::from(most) + 1)) as u32
+    }
+}

@@ -1,0 +1,456 @@
+//! Every number that a host can meet, with its place and its text. (5 and 6, which the package's types rule out, are
+//! tested beside the calls, in `src/ffi.rs`.)
+
+mod common;
+
+use common::{image, integer, text, BUDGET};
+use deletion_machine::{
+    Answer, CheckError, Image, LuaError, Machine, Outcome, Place, ReadError, StartError, State,
+    Value, IMAGE_BYTES,
+};
+use std::error::Error;
+
+fn at(prototype: usize, instruction: usize) -> Place {
+    Place {
+        prototype,
+        instruction,
+    }
+}
+
+// ---- reading: 1 to 4
+
+fn refused(text: &[u8]) -> ReadError {
+    Image::read(text).expect_err("refused")
+}
+
+#[test]
+fn one() {
+    for (text, line) in [
+        (&b"\n"[..], 0),
+        (b"a00100", 0),
+        (b"a0010\n", 0),
+        (b"A00100\n", 0),
+        (b"a00100\r\n", 0),
+        (b"a00100\nzz\n", 1),
+        (b"a00100\nc00c00000000\ne001", 2),
+        (b"\xff\xfe\x00", 0),
+    ] {
+        assert_eq!(refused(text), ReadError::NotHex { line }, "{text:?}");
+    }
+    assert_eq!(
+        refused(b"\n").to_string(),
+        "line 0 (from 0): empty, not pairs of lowercase hexadecimal digits, or without LF"
+    );
+}
+
+#[test]
+fn two() {
+    for (lines, line) in [
+        (&["d0"][..], 0),
+        (&["a00000"], 0),
+        (&["a00102"], 0),
+        (&["a001"], 0),
+        (&["b000"], 0),
+        (&["c00c00000000"], 0),
+        (&["a00100", "b00102"], 1),
+        (&["a00100", "b005"], 1),
+        (&["a00100", "c00c00000000", "b000"], 2),
+        (&["a00100", "c00c00000000", "e002"], 2),
+        (&["a00100", "c00c00000000", "e000"], 2),
+    ] {
+        let error = refused(&text(lines));
+        assert_eq!(error, ReadError::NotAFrame { line }, "{lines:?}");
+    }
+    let long = format!("b004{}", "61".repeat(65));
+    let error = refused(&text(&["a00100", &long]));
+    assert_eq!(error, ReadError::NotAFrame { line: 1 });
+    assert_eq!(
+        error.to_string(),
+        "line 1 (from 0): no frame that can stand here: unknown kind, wrong length, tag, order or field"
+    );
+}
+
+#[test]
+fn three() {
+    let longest = vec![b'\n'; IMAGE_BYTES];
+    assert_eq!(refused(&longest), ReadError::NotHex { line: 0 });
+    let error = refused(&vec![b'\n'; IMAGE_BYTES + 1]);
+    assert_eq!(error, ReadError::TooLong { bytes: 65_537 });
+    assert_eq!(
+        error.to_string(),
+        "the image has 65537 bytes, and 65536 are the most"
+    );
+
+    let prototypes = |n: usize| text(&vec!["a00100"; n]);
+    assert_eq!(refused(&prototypes(32)), ReadError::NoEnd { line: 32 });
+    assert_eq!(refused(&prototypes(33)), ReadError::TooMany { line: 32 });
+
+    let with = |frame: &'static str, n: usize| {
+        let mut lines = vec!["a00100"];
+        lines.resize(n + 1, frame);
+        text(&lines)
+    };
+    let constants = |n| refused(&with("b000", n));
+    assert_eq!(constants(256), ReadError::NoEnd { line: 257 });
+    assert_eq!(constants(257), ReadError::TooMany { line: 257 });
+    let instructions = |n| refused(&with("c00c00000000", n));
+    assert_eq!(instructions(4096), ReadError::NoEnd { line: 4097 });
+    assert_eq!(instructions(4097), ReadError::TooMany { line: 4097 });
+    assert_eq!(
+        instructions(4097).to_string(),
+        "line 4097 (from 0): one too many: an image has at most 32 prototypes, a prototype 256 constants and 4096 instructions"
+    );
+}
+
+#[test]
+fn four() {
+    assert_eq!(refused(b""), ReadError::NoEnd { line: 0 });
+    let whole = text(&["a00100", "c00c00000000", "e001"]);
+    assert!(Image::read(&whole).is_ok());
+    assert_eq!(refused(&whole[..20]), ReadError::NoEnd { line: 2 });
+    for more in ["\n", "e", "e001\n", "\0"] {
+        let text = [&whole, more.as_bytes()].concat();
+        assert_eq!(refused(&text), ReadError::NoEnd { line: 3 }, "{more:?}");
+    }
+    assert_eq!(
+        refused(b"").to_string(),
+        "after 0 lines: no e0 line at the end, or a byte after it"
+    );
+}
+
+#[test]
+fn numbers_and_lines_of_reading() {
+    let line = 9;
+    for (error, number, at) in [
+        (ReadError::NotHex { line }, 1, 9),
+        (ReadError::NotAFrame { line }, 2, 9),
+        (ReadError::TooLong { bytes: 70_000 }, 3, 0),
+        (ReadError::TooMany { line }, 3, 9),
+        (ReadError::NoEnd { line }, 4, 9),
+    ] {
+        assert_eq!((error.number(), error.line()), (number, at));
+    }
+}
+
+// ---- checking: 10 to 15
+
+/// Checks a prototype of two registers, one constant and these instructions, then a good one; starting refuses the
+/// same.
+fn checked(instructions: &[&str]) -> Result<(), CheckError> {
+    let mut lines = vec!["a00200", "b000"];
+    lines.extend(instructions);
+    lines.extend(["a00100", "c00c00000000", "e002"]);
+    let image = image(&lines);
+    let result = image.check();
+    match (result, Machine::start(&image, &[])) {
+        (Ok(()), Ok(_)) => {}
+        (Err(error), Err(StartError::Check(same))) => assert_eq!(error, same),
+        (_, other) => panic!("check gives {result:?}, start {other:?}"),
+    }
+    result
+}
+
+const RETURN: &str = "c00c00000000";
+
+#[test]
+fn ten_to_fifteen() {
+    assert_eq!(checked(&[RETURN]), Ok(()));
+    for (instruction, error, number) in [
+        ("c00400000000", CheckError::Operation(at(0, 1)), 10),
+        ("c0ff00000000", CheckError::Operation(at(0, 1)), 10),
+        ("c00a0000ff00", CheckError::Operation(at(0, 1)), 10),
+        ("c00c0000ff00", CheckError::Operation(at(0, 1)), 10),
+        ("c00e00000000", CheckError::Operation(at(0, 1)), 10),
+        ("c00000000001", CheckError::Unused(at(0, 1)), 11),
+        ("c00001000000", CheckError::Unused(at(0, 1)), 11),
+        ("c00200000200", CheckError::Unused(at(0, 1)), 11),
+        ("c00000020000", CheckError::Register(at(0, 1)), 12),
+        ("c00300010200", CheckError::Register(at(0, 1)), 12),
+        ("c00100000001", CheckError::Constant(at(0, 1)), 13),
+        ("c02101000100", CheckError::Constant(at(0, 1)), 13),
+        ("c00e00ff0001", CheckError::Target(at(0, 1)), 14),
+        ("c00e00ff8000", CheckError::Target(at(0, 1)), 14),
+        ("c00f00000000", CheckError::Target(at(0, 1)), 14),
+        ("c01100000200", CheckError::Prototype(at(0, 1)), 15),
+    ] {
+        let result = checked(&["c00300000200", instruction, RETURN]);
+        assert_eq!(result, Err(error), "{instruction}");
+        assert_eq!(error.number(), number);
+        assert_eq!(error.place(), at(0, 1));
+    }
+}
+
+#[test]
+fn images_with_nothing_to_run() {
+    assert_eq!(checked(&[]), Err(CheckError::Target(at(0, 0))));
+    let none = image(&["e000"]);
+    assert_eq!(none.check(), Err(CheckError::Prototype(at(0, 0))));
+    let second = image(&["a00100", RETURN, "a00100", "e002"]);
+    assert_eq!(second.check(), Err(CheckError::Target(at(1, 0))));
+}
+
+#[test]
+fn texts_of_checking() {
+    let place = at(2, 17);
+    for (error, what) in [
+        (
+            CheckError::Operation(place),
+            "an operation that the machine doesn't have, a count of 255 in a call or return, or a jump that closes",
+        ),
+        (
+            CheckError::Unused(place),
+            "an unused byte or flag that isn't zero, or a yes/no byte above 1",
+        ),
+        (
+            CheckError::Register(place),
+            "a register that the prototype doesn't have",
+        ),
+        (
+            CheckError::Constant(place),
+            "a constant that the prototype doesn't have",
+        ),
+        (
+            CheckError::Target(place),
+            "the next instruction may be one that isn't there",
+        ),
+        (
+            CheckError::Prototype(place),
+            "a prototype that isn't in the image",
+        ),
+    ] {
+        let text = format!("prototype 2, instruction 17: {what}");
+        assert_eq!(error.to_string(), text);
+        let start = StartError::Check(error);
+        assert_eq!(start.to_string(), text);
+        assert_eq!(start.number(), error.number());
+    }
+}
+
+// ---- starting: 20
+
+#[test]
+fn twenty() {
+    let image = image(&["a00202", RETURN, "e001"]);
+    let refused = |arguments: &[Value]| Machine::start(&image, arguments).unwrap_err();
+    assert!(Machine::start(&image, &[Value::Nil; 8]).is_ok());
+    assert_eq!(refused(&[Value::Nil; 9]), StartError::Arguments);
+    assert_eq!(
+        refused(&[Value::Nil, Value::String(b"")]),
+        StartError::Arguments
+    );
+    assert_eq!(refused(&[Value::Function(0)]), StartError::Arguments);
+    assert_eq!(StartError::Arguments.number(), 20);
+    let error: Box<dyn Error> = StartError::Arguments.into();
+    assert_eq!(
+        error.to_string(),
+        "more than 8 arguments, or one that is not nil, a boolean, an integer or a number"
+    );
+}
+
+#[test]
+fn the_checker_comes_before_the_arguments() {
+    let image = image(&["e000"]);
+    let error = Machine::start(&image, &[Value::Nil; 9]).unwrap_err();
+    assert_eq!(error, StartError::Check(CheckError::Prototype(at(0, 0))));
+}
+
+// ---- running: 30 to 44, 50 to 52
+
+/// Runs the lines to a Lua error, sees it answered again, and answers it with its count and place.
+fn failed(lines: &[&str]) -> (LuaError, u32, Place) {
+    let image = image(lines);
+    let mut machine = Machine::start(&image, &[]).unwrap();
+    let answer = machine.run(BUDGET);
+    let state = machine.state().clone();
+    assert_eq!(machine.values(), []);
+    let again = Answer { count: 0, ..answer };
+    assert_eq!(machine.run(BUDGET), again);
+    assert_eq!(machine.state(), &state);
+    assert_eq!(state.frames[0], answer.outcome.number().into(), "its mark");
+    match answer.outcome {
+        Outcome::Failed(error) => {
+            assert_eq!(answer.outcome.number(), error.number());
+            assert_eq!(answer.outcome.to_string(), error.to_string());
+            (error, answer.count, answer.place)
+        }
+        other => panic!("{lines:?}: {other}"),
+    }
+}
+
+#[test]
+fn thirty_to_forty_four() {
+    // operation, and what it raises on nil
+    for (operation, error) in [
+        (33, LuaError::Add),
+        (34, LuaError::Subtract),
+        (35, LuaError::Multiply),
+        (36, LuaError::FloatDivide),
+        (37, LuaError::FloorDivide),
+        (38, LuaError::Modulo),
+        (31, LuaError::UnaryNegate),
+        (40, LuaError::BitAnd),
+        (41, LuaError::BitOr),
+        (42, LuaError::BitXor),
+        (32, LuaError::BitNot),
+        (43, LuaError::ShiftLeft),
+        (44, LuaError::ShiftRight),
+        (28, LuaError::LessThan),
+        (29, LuaError::LessEqual),
+    ] {
+        let one = integer(1);
+        let instruction = match operation {
+            // left is register 0, nil; right is constant 0 where there is one
+            31 | 32 => format!("c0{operation:02x}00000000"),
+            _ => format!("c0{operation:02x}02000000"),
+        };
+        let lines = [
+            "a00100",
+            &one,
+            "c00300000100",
+            &instruction,
+            RETURN,
+            RETURN,
+            "e001",
+        ];
+        assert_eq!(failed(&lines), (error, 2, at(0, 1)), "{operation}");
+    }
+}
+
+#[test]
+fn division_of_integers_by_zero() {
+    for (operation, error) in [("25", LuaError::FloorDivide), ("26", LuaError::Modulo)] {
+        let zero = integer(0);
+        let instruction = format!("c0{operation}03000000");
+        let lines = ["a00100", &zero, &instruction, RETURN, "e001"];
+        assert_eq!(failed(&lines), (error, 1, at(0, 0)));
+    }
+}
+
+#[test]
+fn loops_over_what_is_no_number() {
+    let prep = ["a00400", "c01200000000", RETURN, "e001"];
+    assert_eq!(failed(&prep), (LuaError::Subtract, 1, at(0, 0)));
+    let turn = ["a00400", "c01300000000", RETURN, "e001"];
+    assert_eq!(failed(&turn), (LuaError::Add, 1, at(0, 0)));
+}
+
+#[test]
+fn fifty_to_fifty_two() {
+    let of_nil = ["a00100", "c00a00000000", RETURN, "e001"];
+    assert_eq!(failed(&of_nil), (LuaError::NotAFunction, 1, at(0, 0)));
+
+    // a function that calls itself: by 16 activations, or by registers before that
+    let closure = "c01100000000";
+    let call = "c00a00000000";
+    let deep = ["a00100", closure, call, RETURN, "e001"];
+    assert_eq!(failed(&deep), (LuaError::TooDeep, 32, at(0, 1)));
+    let just = ["a08000", closure, call, RETURN, "e001"];
+    assert_eq!(failed(&just), (LuaError::TooDeep, 32, at(0, 1)));
+    let wide = ["a08100", closure, call, RETURN, "e001"];
+    assert_eq!(failed(&wide), (LuaError::TooManyRegisters, 30, at(0, 1)));
+}
+
+#[test]
+fn texts_of_lua_errors() {
+    let numbers: Vec<u8> = LuaError::ALL.iter().map(LuaError::number).collect();
+    let expected: Vec<u8> = (30..=44).chain(50..=52).collect();
+    assert_eq!(numbers, expected);
+    let mut texts: Vec<String> = LuaError::ALL.iter().map(LuaError::to_string).collect();
+    texts.sort();
+    texts.dedup();
+    assert_eq!(texts.len(), LuaError::ALL.len(), "no two say the same");
+    assert_eq!(
+        LuaError::Modulo.to_string(),
+        "%: an operand is not a number, or integers are divided by 0"
+    );
+    let answer = Answer {
+        outcome: Outcome::Failed(LuaError::NotAFunction),
+        count: 3,
+        place: at(1, 2),
+    };
+    assert_eq!(
+        answer.to_string(),
+        "prototype 1, instruction 2: a call of a value that is not a function (3 instructions)"
+    );
+}
+
+// ---- running: 60, 70
+
+#[test]
+fn sixty() {
+    let image = image(&["a00200", "c00300000200", "c00c00000200", "e001"]);
+    let mut machine = Machine::start(&image, &[]).unwrap();
+    machine.run(1);
+    let good = machine.into_state();
+    let fault = Answer {
+        outcome: Outcome::Fault,
+        count: 0,
+        place: at(0, 0),
+    };
+    type Tamper = fn(&mut State);
+    let tampers: [(&str, Tamper); 12] = [
+        ("a mark that is none", |state| state.frames[0] = 99),
+        ("finished, not at a Return", |state| {
+            state.frames[0] = 0;
+            state.frames[3] = 0
+        }),
+        ("no activation", |state| state.frames[1] = 0),
+        ("17 activations", |state| state.frames[1] = 17),
+        ("a prototype that isn't there", |state| state.frames[2] = 1),
+        ("an instruction that isn't there", |state| {
+            state.frames[3] = 2
+        }),
+        ("a register of no kind", |state| state.kinds[1] = 6),
+        ("a boolean of 2", |state| {
+            state.kinds[1] = 1;
+            state.words[1] = 2
+        }),
+        ("a string that isn't there", |state| state.kinds[1] = 4),
+        ("frames too short", |state| state.frames.truncate(33)),
+        ("kinds too short", |state| state.kinds.truncate(2_307)),
+        ("no words", |state| state.words.clear()),
+    ];
+    for (what, tamper) in tampers {
+        let mut state = good.clone();
+        tamper(&mut state);
+        let mut machine = Machine::resume(&image, state.clone());
+        for budget in [0, 1, BUDGET] {
+            assert_eq!(machine.run(budget), fault, "{what}");
+        }
+        assert_eq!(machine.standing(), fault, "{what}");
+        assert_eq!(machine.values(), [], "{what}");
+        assert_eq!(machine.state(), &state, "{what}: nothing is touched");
+    }
+    assert_eq!(fault.outcome.number(), 60);
+    assert_eq!(
+        fault.outcome.to_string(),
+        "machine fault, the state doesn't fit the image"
+    );
+
+    // what is not live may hold anything
+    let mut state = good.clone();
+    state.kinds[2] = 9;
+    state.frames[4] = 1_000;
+    let mut machine = Machine::resume(&image, state);
+    assert_eq!(machine.run(BUDGET).outcome, Outcome::Finished);
+}
+
+#[test]
+fn seventy() {
+    // Jump to itself
+    let image = image(&["a00100", "c00e00ffffff", RETURN, "e001"]);
+    let mut machine = Machine::start(&image, &[]).unwrap();
+    for count in [0, 1, 70, BUDGET] {
+        let answer = machine.run(count);
+        let paused = Answer {
+            outcome: Outcome::Paused,
+            count,
+            place: at(0, 0),
+        };
+        assert_eq!(answer, paused);
+        assert_eq!(machine.standing().outcome, Outcome::Paused);
+        assert_eq!(machine.values(), []);
+    }
+    assert_eq!(Outcome::Paused.number(), 70);
+    assert_eq!(Outcome::Paused.to_string(), "paused, its budget is used");
+}

@@ -1,0 +1,180 @@
+//! Document 01's session and its example W13, the rules in `examples`, and every kind of value.
+
+mod common;
+
+use common::{image, integer, program, rules, text, BUDGET};
+use deletion_machine::{Answer, Image, Machine, Outcome, Place, Value};
+
+#[test]
+fn the_session() {
+    let session = b"a00100\nb0020000000000000007\nc00100000000\nc00c00000100\ne001\n";
+    assert_eq!(
+        program(session),
+        "f00000000002000001\nb0020000000000000007\n"
+    );
+}
+
+#[test]
+fn the_rules_of_the_examples() {
+    for (name, text, result) in rules() {
+        assert_eq!(program(&text), result, "{name}");
+    }
+}
+
+#[test]
+fn what_was_read_is_written_back() {
+    let mut texts: Vec<Vec<u8>> = rules().into_iter().map(|(_, text, _)| text).collect();
+    // images that the checker refuses are written back too
+    texts.push(text(&["e000"]));
+    texts.push(text(&["a0ffff", "c0ffffffffff", "e001"]));
+    texts.push(text(&["a00100", "b000", "b00100", "b00101", "e001"]));
+    texts.push(text(&[
+        "a00100",
+        "b0037ff0000000000001", // a NaN keeps its bits
+        "b004",
+        &format!("b004{}", "00ff".repeat(32)),
+        "e001",
+    ]));
+    for text in texts {
+        let image = Image::read(&text).unwrap();
+        assert_eq!(image.write(), text);
+        assert_eq!(Image::read(&image.write()).unwrap(), image);
+    }
+}
+
+fn w13() -> Image {
+    image(&[
+        "a00400",
+        &integer(1),
+        &integer(3),
+        "c00100000000",
+        "c00100010001",
+        "c00100020000",
+        "c01200000000",
+        "c0130000ffff",
+        "c00c00000000",
+        "e001",
+    ])
+}
+
+#[test]
+fn w13_on_budget_8_and_9() {
+    let image = w13();
+    let place = Place {
+        prototype: 0,
+        instruction: 5,
+    };
+
+    let mut machine = Machine::start(&image, &[]).unwrap();
+    let paused = Answer {
+        outcome: Outcome::Paused,
+        count: 8,
+        place,
+    };
+    assert_eq!(machine.run(8), paused);
+
+    let mut machine = Machine::start(&image, &[]).unwrap();
+    let finished = Answer {
+        outcome: Outcome::Finished,
+        count: 9,
+        place,
+    };
+    assert_eq!(machine.run(9), finished);
+    assert_eq!(machine.values(), []);
+    assert_eq!(machine.state().kinds[0..4], [2, 2, 2, 2]);
+    assert_eq!(machine.state().words[0..4], [4, 3, 1, 3]);
+}
+
+#[test]
+fn values_of_every_kind() {
+    let image = image(&[
+        "a00a00",
+        "b000",
+        "b00100",
+        "b00101",
+        "b0028000000000000000",
+        "b0033ff8000000000000",
+        "b00400ff61",
+        "b004",
+        "b003fff8000000000000",
+        "c00100000000",
+        "c00100010001",
+        "c00100020002",
+        "c00100030003",
+        "c00100040004",
+        "c00100050005",
+        "c00100060006",
+        "c01100070100",
+        "c00100080007",
+        "c00c00000900",
+        "a00100",
+        "c00c00000000",
+        "e002",
+    ]);
+    let mut machine = Machine::start(&image, &[]).unwrap();
+    assert_eq!(machine.values(), [], "nothing before the end");
+    assert_eq!(machine.run(BUDGET).outcome, Outcome::Finished);
+    let values = machine.values();
+    assert_eq!(
+        values[..8],
+        [
+            Value::Nil,
+            Value::Boolean(false),
+            Value::Boolean(true),
+            Value::Integer(i64::MIN),
+            Value::Number(1.5),
+            Value::String(&[0, 255, b'a']),
+            Value::String(b""),
+            Value::Function(1),
+        ]
+    );
+    // a constant that is copied keeps its bits, of a NaN too
+    match values[8..] {
+        [Value::Number(x)] => assert_eq!(x.to_bits(), 0xfff8_0000_0000_0000),
+        ref other => panic!("{other:?}"),
+    }
+    let shown: Vec<String> = values.iter().map(Value::to_string).collect();
+    assert_eq!(
+        shown,
+        [
+            "nil",
+            "false",
+            "true",
+            "-9223372036854775808",
+            "1.5",
+            "\"\\x00\\xffa\"",
+            "\"\"",
+            "function of prototype 1",
+            "NaN",
+        ]
+    );
+    // the values live as long as the image, not the machine
+    drop(machine);
+    assert_eq!(values[5], Value::String(b"\x00\xffa"));
+}
+
+#[test]
+fn arguments() {
+    let image = image(&["a00404", "c00c00000400", "e001"]);
+    let given = [Value::from(true), Value::from(-1), Value::from(0.5)];
+    let mut machine = Machine::start(&image, &given).unwrap();
+    machine.run(BUDGET);
+    let [a, b, c] = given;
+    assert_eq!(
+        machine.values(),
+        [a, b, c, Value::Nil],
+        "a missing one is nil"
+    );
+
+    let eight: Vec<Value> = (1..=8).map(Value::Integer).collect();
+    let mut machine = Machine::start(&image, &eight).unwrap();
+    machine.run(BUDGET);
+    assert_eq!(machine.values(), eight[..4], "surplus ones drop");
+}
+
+#[test]
+fn images_and_states_cross_threads() {
+    fn sent<T: Send + Sync>() {}
+    sent::<Image>();
+    sent::<Machine<'static>>();
+}
