@@ -1,4 +1,4 @@
--- The session of 01 is read, accepted and started. Assumes nothing.
+-- The session of 01 is read, written back, accepted and started. Assumes nothing.
 use mathlib.Core.Path.{_≡_, refl, sym, ap, _∙_}
 use mathlib.Core.Bool.{true}
 use mathlib.Core.List.{List, [], _∷_}
@@ -16,7 +16,10 @@ use Rattle.image.specs.declared.Judged.the-variants as judged
 use Rattle.storage.specs.Layout.{Storage, entryOf, codesOf, kindsOf, entriesAll, codesAll, contentsOf, laidIn, longEnough}
 use Rattle.storage.specs.Stored.{readsBack}
 use Rattle.storage.proofs.Six.{readable-back}
-use Rattle.writer.proofs.RoundTrip.{left-long}
+use Rattle.reader.specs.Reading.{readOf, leftOf}
+use Rattle.writer.specs.Writing.{writeOf, outOf, Written}
+use Rattle.writer.specs.declared.Wrote.{Wrote}
+use Rattle.writer.proofs.RoundTrip.{left-long, read-written}
 use Rattle.checker.specs.Operations.{shapeOf, nextOf}
 use Rattle.checker.specs.Rules.{carried, tidy, registersIn, constantsIn, inside, allInside, targetsIn, prototypeIn}
 use Rattle.checker.specs.Check.{checkOf}
@@ -26,7 +29,7 @@ use Rattle.checker.proofs.Bools.{test-cases}
 use Rattle.checker.proofs.Exact.{exact}
 use Rattle.fitness.specs.Fit.{allBelow}
 use Rattle.starter.specs.Start.{permitted, checkedStart, startOf}
-use Rattle.laws.specs.Session.{sessionImage, sessionIn, SessionStarts}
+use Rattle.laws.specs.Session.{sessionImage, sessionIn, SessionStarts, SessionReads, SessionWritten}
 
 abbrev frames : List F
 frames = opens 1 0 ∷ const 2 7 ∷ code 0x400_0000 ∷ code 0x3000_0100 ∷ ends 1 ∷ []
@@ -110,3 +113,16 @@ accepted lent l = ap checkOf (plain-is lent) ∙ exact (plain lent) .1 (demanded
 pub session-starts : SessionStarts
 unfolding startOf checkedStart permitted allBelow
 session-starts lent s l h = rw (h, accepted lent l)
+
+-- ---- read and written back
+
+pub session-reads : SessionReads
+unfolding readOf leftOf sessionIn
+session-reads lent l = record { answer = rw (l, image-accepted); left = refl }
+
+pub session-written : SessionWritten
+session-written lent out l h =
+    let S = sessionIn lent in
+    let w : Written S (writeOf S out) out (outOf (writeOf S out) S out) = record { answer = refl; left = refl } in
+    let back = read-written (session-reads lent l) h w in
+    record { answer = sym (back .0); left = sym (back .1) ∙ ap (λ (r : Wrote). outOf r S out) (back .0) }

@@ -1,11 +1,16 @@
 -- Demands 2 and 3 on one page: a proof of each statement of specs/Statements. Assumes nothing.
 use mathlib.Core.Path.{_≡_}
+use mathlib.Core.List.{List, []}
+use Prim.Native.Nat.{ℕ}
+use Rattle.storage.specs.Layout.{Storage}
+use Rattle.fitness.specs.Fit.{State}
+use Rattle.starter.specs.Start.{begun}
 use Rattle.writer.proofs.RoundTrip as writer
 use Rattle.checker.proofs.Exact as checker
 use Rattle.worked.specs.Worked as claim
 use Rattle.laws.specs.Statements as statements
 use Rattle.laws.specs.Statements.{afterRuns}
-use Rattle.laws.specs.Session.{SessionStarts}
+use Rattle.laws.specs.Session as session
 use Rattle.laws.proofs.NoFault as ends
 use Rattle.laws.proofs.Runs.{run-whole}
 use Rattle.laws.proofs.Started.{begun-demanded}
@@ -38,13 +43,19 @@ stays-fit = ends.stays-fit
 pub three-ends : statements.ThreeEnds
 three-ends = ends.three-ends
 
-pub split : statements.Split
-split S argKinds argWords s t e bs a b =
-    splits.split-any S (afterRuns S bs t) a b
-    (λ h. record {
+-- an accepted image can be run on after every run
+resumes :
+    (S : Storage) (argKinds argWords : List ℕ) (s t : State) → statements.Begun S argKinds argWords s t
+    → (bs : List ℕ) (a b : ℕ) → statements.Resumable S a b (afterRuns S bs t)
+resumes S argKinds argWords s t e bs a b =
+    record {
       fit = run-whole S (begun-demanded S argKinds argWords s t e) a (afterRuns S bs t) (stays-fit S argKinds argWords s t e bs) .fit;
       goes = λ z n. no-fault S argKinds argWords s t e bs a z;
-    })
+    }
+
+pub split : statements.Split
+split S argKinds argWords s t e bs a b =
+    splits.split-any S (afterRuns S bs t) a b (λ h. resumes S argKinds argWords s t e bs a b)
 
 pub split-any : statements.SplitAny
 split-any = splits.split-any
@@ -57,7 +68,19 @@ counted = counts.counted
 pub worked : claim.defined ≡ claim.answers
 worked = claim.worked
 
--- ---- the hypotheses can be met: the session of 01 is read, accepted and started
+-- ---- the hypotheses can be met: the session of 01 is read, written back, accepted and started, and can be run on
 
-pub session-starts : SessionStarts
+pub session-reads : session.SessionReads
+session-reads = example.session-reads
+
+pub session-written : session.SessionWritten
+session-written = example.session-written
+
+pub session-starts : session.SessionStarts
 session-starts = example.session-starts
+
+pub session-resumes : session.SessionResumes
+unfolding afterRuns
+session-resumes lent s l h a b =
+    let S = session.sessionIn lent in
+    resumes S [] [] s (begun (S .table) [] [] s) (session-starts lent s l h) [] a b
