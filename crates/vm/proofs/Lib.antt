@@ -4,5 +4,10 @@ pub mod Steps
 pub mod Runs
 pub mod Pairs
 pub mod Arms
+pub mod Rules
 pub mod Quickly
+pub mod Ranges
+pub mod Clearing
+pub mod Calling
+pub mod Returning
 pub mod Hurried
