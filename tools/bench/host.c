@@ -1,7 +1,7 @@
 /* Runs one image to its end and prints how long the run took, for tools/bench/bench.
  *
  *     host run IMAGE       instructions, nanoseconds of the run, returned values (kind:word ..)
- *     host call IMAGE      nanoseconds of a `dm_run` on no budget
+ *     host call IMAGE      nanoseconds of a `dm_run` on no budget, and of one on a budget of 1 (the image loops for ever)
  *     host read IMAGE      nanoseconds of reading and of checking the image */
 #define _POSIX_C_SOURCE 199309L
 #include <inttypes.h>
@@ -62,6 +62,7 @@ static uint64_t best_of(int calls, void (*call)(void))
 static size_t length;
 
 static void no_budget(void) { dm_run(DM_STORAGE(&storage), DM_STATE(&state), 0, answer, DM_ANSWER); }
+static void one_instruction(void) { dm_run(DM_STORAGE(&storage), DM_STATE(&state), 1, answer, DM_ANSWER); }
 static void read_image(void) { dm_read(image, length, DM_STORAGE(&storage), answer, DM_ANSWER); }
 static void check_image(void) { dm_check(DM_STORAGE(&storage), answer, DM_ANSWER); }
 
@@ -87,7 +88,7 @@ int main(int argc, char **argv)
     if (dm_start(DM_STORAGE(&storage), DM_STATE(&state), no_kinds, 0, no_words, 0, answer, DM_ANSWER) != DM_DONE)
         return 1;
     if (strcmp(argv[1], "call") == 0) {
-        printf("%" PRIu64 "\n", best_of(200, no_budget));
+        printf("%" PRIu64 " %" PRIu64 "\n", best_of(200, no_budget), best_of(200, one_instruction));
         return 0;
     }
     return run();

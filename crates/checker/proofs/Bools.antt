@@ -19,8 +19,3 @@ or-pick false b = refl
 pub not-or-pick : (a b : Bool) → not a || b ≡ pick a b true
 not-or-pick true b = refl
 not-or-pick false b = refl
-
--- by cases of a test
-pub test-cases {ℓ} : {X : Type ℓ} (b : Bool) → (b ≡ true → X) → (b ≡ false → X) → X
-test-cases true f g = f refl
-test-cases false f g = g refl

@@ -9,6 +9,7 @@ use native.Mathlib.Omega.{arith}
 use native.Mathlib.Numerals.{add-one}
 use borrow.Author.Tests.{eqb-true, eqb-false}
 use lib.Dec.{eqb}
+use Rattle.image.proofs.Cases.{by-bool}
 use Rattle.storage.specs.Layout.{Storage, longEnough}
 use Rattle.storage.specs.Fields.{prototypesOf, instructionsOf, instructionAt}
 use Rattle.storage.specs.Stored.{readsBack}
@@ -16,7 +17,6 @@ use Rattle.checker.specs.Check.{limitsOf, brokenAt, codeFrom, protosFrom
 use Rattle.checker.specs.Kept.{KeptAt, Sound, Demanded, BadAt, none, empty, breaks, FirstBad}
 use Rattle.checker.specs.declared.Checked.{Checked}
 use Rattle.checker.specs.declared.Checked.the-variants.{Accepted, Refused}
-use Rattle.checker.proofs.Bools.{test-cases}
 use Rattle.checker.proofs.Lowest.{kept, unbroken}
 use Rattle.checker.proofs.Turns.{code-good, code-bad, code-end, search-none, search-start, proto-empty, proto-open, search-end}
 
@@ -29,7 +29,7 @@ data Found (P Q : ℕ → Type 0) (n : ℕ) : Type 0 where
 module _ (P Q : ℕ → Type 0) (decide : (j : ℕ) → P j ⊎ Q j) where
   more : (n : ℕ) → ((j : ℕ) → j < n → P j) → P n → (j : ℕ) → j < suc n → P j
   more n f p j h =
-      test-cases (eqb j n) (λ t. let e : j ≡ n = eqb-true j n t in rw e p)
+      by-bool (eqb j n) (λ t. let e : j ≡ n = eqb-true j n t in rw e p)
       (λ t. let d = eqb-false j n t in f j (omega (arith, d)))
 
   next : (n : ℕ) → Found P Q n → Found P Q (suc n)
@@ -96,7 +96,7 @@ module _ (table code : List ℕ) where
   keeps-or-breaks : (q i : ℕ) → KeptAt table code q i ⊎ Breaks q i
   unfolding brokenAt Breaks
   keeps-or-breaks q i =
-      test-cases (eqb (brokenAt table code q i) 0)
+      by-bool (eqb (brokenAt table code q i) 0)
       (λ t. inl (kept (limitsOf table q) i (instructionAt table code q i) (eqb-true _ _ t))) (λ t. inr (eqb-false _ _ t))
 
   -- what is bad in prototype q, at whatever instruction
@@ -106,7 +106,7 @@ module _ (table code : List ℕ) where
   sound-or-bad : (q : ℕ) → Sound table code q ⊎ BadIn q
   unfolding Breaks
   sound-or-bad q =
-      test-cases (eqb (instructionsOf table q) 0) (λ t. inr (bad-in 14 0 (λ h. empty q h (eqb-true _ _ t))))
+      by-bool (eqb (instructionsOf table q) 0) (λ t. inr (bad-in 14 0 (λ h. empty q h (eqb-true _ _ t))))
       (λ t. from (eqb-false _ _ t) (first (KeptAt table code q) (Breaks q) (keeps-or-breaks q) (instructionsOf table q)))
     where
       from :
@@ -114,6 +114,20 @@ module _ (table code : List ℕ) where
           → Sound table code q ⊎ BadIn q
       from z (all f) = inl (record { some = z; each = f })
       from z (one i h f b) = inr (bad-in (brokenAt table code q i) i (λ g. breaks (brokenAt table code q i) q i g h f refl b))
+
+apart : (n q i : ℕ) → Accepted ≡ Refused n q i → ⊥
+apart n q i e =
+    let z : _≡_ {A = ℕ} 0 1 = cc in
+    omega arith
+
+-- where the search finds nothing, every prototype is sound
+pub search-sound : (table code : List ℕ) → searchOf table code ≡ Accepted → (q : ℕ) → q < prototypesOf table → Sound table code q
+search-sound table code e =
+    from (first (Sound table code) (BadIn table code) (sound-or-bad table code) (prototypesOf table))
+  where
+    from : Found (Sound table code) (BadIn table code) (prototypesOf table) → (q : ℕ) → q < prototypesOf table → Sound table code q
+    from (all f) = f
+    from (one q h f (bad-in n i b)) = absurd (apart n q i (sym e ∙ search-refuses table code f (b h)))
 
 data AnyBad (S : Storage) : Type 0 where
   any-bad : (n q i : ℕ) → FirstBad S n q i → AnyBad S
@@ -130,7 +144,7 @@ module _ (S : Storage) where
   module _ (l : longEnough S ≡ true) (r : readsBack S ≡ true) where
     all-or-any : Demanded S ⊎ AnyBad S
     all-or-any =
-        test-cases (eqb (prototypesOf (S .table)) 0)
+        by-bool (eqb (prototypesOf (S .table)) 0)
         (λ t. inr (any-bad 15 0 0 (record { long = l; reads = r; before = λ j h. absurd (omega arith); here = none (eqb-true _ _ t) })))
         (λ t. from (eqb-false _ _ t)
         (first (Sound (S .table) (S .code)) (BadIn (S .table) (S .code)) (sound-or-bad (S .table) (S .code)) (prototypesOf (S .table))))
@@ -145,14 +159,9 @@ module _ (S : Storage) where
   judged : (v : Checked) → checkOf S ≡ v → (v ≡ Refused 5 0 0 → ⊥) → (v ≡ Refused 6 0 0 → ⊥) → Demanded S ⊎ AnyBad S
   unfolding checkOf
   judged v e n5 n6 =
-      test-cases (longEnough S)
-      (λ l. test-cases (readsBack S) (λ r. all-or-any l r) (λ r. absurd (n6 (sym (rw (l, r) at e)))))
+      by-bool (longEnough S)
+      (λ l. by-bool (readsBack S) (λ r. all-or-any l r) (λ r. absurd (n6 (sym (rw (l, r) at e)))))
       (λ l. absurd (n5 (sym (rw l at e))))
-
-  apart : (n q i : ℕ) → Accepted ≡ Refused n q i → ⊥
-  apart n q i e =
-      let z : _≡_ {A = ℕ} 0 1 = cc in
-      omega arith
 
   pub exact : (checkOf S ≡ Accepted) ↔ Demanded S
   exact = (λ e. ⊎-elim (λ d. d) (λ b. absurd (no e b)) (judged Accepted e (apart 5 0 0) (apart 6 0 0)), accepts)

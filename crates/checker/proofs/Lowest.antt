@@ -6,13 +6,13 @@ use mathlib.Core.Logic.{_↔_}
 use native.Mathlib.Omega.{arith}
 use borrow.Author.Tests.{eqb-true, ne-eqb}
 use lib.Dec.{eqb}
+use Rattle.image.proofs.Cases.{by-bool}
 use Rattle.checker.specs.Operations.{Shape, copies, loadsConstant, loadsBool, loadsNil, calls, returns, jumps, tests, testsAndSets, closes, prepares, loops, compares, combines, unknown, shapeAt}
 use Rattle.checker.specs.Rules.{carried, tidy, registersIn, constantsIn, targetsIn, prototypeIn, lowest, brokenOf}
 use Rattle.checker.specs.Decode.{operandsOf, decodeOf}
 use Rattle.checker.specs.Kept.{Kept}
 use Rattle.checker.specs.declared.Limits.{Limits}
 use Rattle.checker.specs.declared.Instruction.the-variants.{Bad}
-use Rattle.checker.proofs.Bools.{test-cases}
 
 -- ---- the six rules
 
@@ -67,7 +67,7 @@ module _ (l : Limits) (p w n : ℕ) where
   pub refused : decodeOf l p w ≡ Bad n → brokenOf l p w ≡ n
   unfolding decodeOf
   refused e =
-      test-cases (eqb (brokenOf l p w) 0)
+      by-bool (eqb (brokenOf l p w) 0)
       (λ t. let k = kept l p w (eqb-true _ _ t) in
       let f : carried (shapeAt w) w ≡ false = not-carried (shapeAt w) p w n (rw t at e) in
       let k10 = k .carried in

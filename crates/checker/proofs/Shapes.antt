@@ -6,6 +6,7 @@ use mathlib.Core.List.{List, [], _∷_}
 use native.Mathlib.Omega.{arith}
 use borrow.Author.Tests.{eqb-true, ne-eqb, lt-leb, leb-true}
 use lib.Dec.{eqb, leb}
+use Rattle.image.proofs.Cases.{by-bool}
 use Rattle.image.specs.Hex.{pick}
 use Rattle.image.specs.Instruction.{operationOf, flagsOf, aOf, bOf, cOf}
 use Rattle.checker.specs.Operations.{Shape, unknown, shapeOf, shapeAt, nextOf}
@@ -16,7 +17,6 @@ use Rattle.checker.specs.declared.Limits.{Limits}
 use Rattle.checker.specs.declared.operands.Bytes.{Bytes}
 use Rattle.checker.specs.declared.Instruction.{Instruction}
 use Rattle.checker.specs.declared.Instruction.the-variants.{Bad}
-use Rattle.checker.proofs.Bools.{test-cases}
 
 -- ---- a shape's decoder
 
@@ -75,7 +75,7 @@ none-of o [] A r = (r, λ k h. absurd (false≢true h))
 none-of o (j ∷ ks) A r =
     let g = none-of o ks (A × (o ≡ j → ⊥)) r in (
       g .0 .0,
-      λ k h. test-cases (eqb k j) (λ t e. g .0 .1 (e ∙ eqb-true k j t)) (λ t. g .1 k (rw t at h)),
+      λ k h. by-bool (eqb k j) (λ t e. g .0 .1 (e ∙ eqb-true k j t)) (λ t. g .1 k (rw t at h)),
     )
 
 abbrev operations : List ℕ
@@ -112,10 +112,10 @@ module _ (o : ℕ) (none : (k : ℕ) → member k operations ≡ true → o ≡ 
         ne-eqb o 18 (none 18 refl),
         ne-eqb o 19 (none 19 refl),
       )
-      (test-cases (leb 27 o)
+      (by-bool (leb 27 o)
       (λ t. let h : 39 ≤ o = low (leb-true 27 o t) in
       rw (t, lt-leb o 29 (omega arith), lt-leb o 32 (omega arith), lt-leb o 38 (omega arith))
-      (test-cases (leb 40 o) (λ u. rw (u, lt-leb o 44 (high (leb-true 40 o u)))) (λ u. rw u)))
+      (by-bool (leb 40 o) (λ u. rw (u, lt-leb o 44 (high (leb-true 40 o u)))) (λ u. rw u)))
       (λ t. rw t))
 
 module _ (l : Limits) (p w : ℕ) where

@@ -141,8 +141,8 @@ pub fn limits_of(table: &[u64], q: usize) -> Limits
     }
 }
 
-// "stops at the first bad one, out of both"
-fn search(table: &[u64], code: &[u64]) -> Checked
+// The rules alone, of contents that are known to be an image's: "stops at the first bad one, out of both".
+pub fn search(table: &[u64], code: &[u64]) -> Checked
     ensures { λ r. ⌜ r ≡ searchOf (now (table .entry)) (now (code .entry)) ⌝ }
 {
     let prototypes = storage::prototypes(table);

@@ -35,71 +35,6 @@ fn print_answer(r: Checked) {
     io::write_all(1, b"\n");
 }
 
-// ---- a line of the list
-
-// Digit i of a line.
-fn digit_at(line: &[u8], i: usize) -> usize
-    ensures { λ r. ⌜ r ≤ 15 ⌝ }
-{
-    (slices::byte_at(line, 0, i) % 16) as usize
-}
-
-// The five digits from the third on.
-fn cell_at(line: &[u8]) -> usize {
-    let thousands = digit_at(line, 2) * 10 + digit_at(line, 3);
-    let tens = digit_at(line, 4) * 10 + digit_at(line, 5);
-    thousands * 1000 + tens * 10 + digit_at(line, 6)
-}
-
-// A hexadecimal digit's value.
-fn hex(b: u8) -> u64
-    ensures { λ r. ⌜ r ≤ 15 ⌝ }
-{
-    let low = (b % 16) as u64;
-    if b < b'a' {
-        return low;
-    }
-    (low + 9) % 16
-}
-
-// The 16 hexadecimal digits from the ninth byte on.
-fn value_at(line: &[u8]) -> u64 {
-    let mut v: u64 = 0;
-    let mut i = 0;
-    while i < 16 {
-        let d = hex(slices::byte_at(line, 8, i));
-        v = (v % 0x1000_0000_0000_0000) * 16 + d;
-        i += 1;
-    }
-    v
-}
-
-// How many of the n cells of a slice are lent: two fewer, one fewer or all of them, as digit i of a line has it.
-fn lent(line: &[u8], i: usize, n: usize) -> usize
-    ensures { λ r. ⌜ r ≤ n ⌝ }
-{
-    let fewer = 2 - digit_at(line, i) % 3;
-    if n < fewer {
-        return n;
-    }
-    n - fewer
-}
-
-// Where the first byte b at or after `at` stands; the length where there is none.
-fn find(s: &[u8], at: usize, b: u8) -> usize
-    requires { ⌜ at ≤ length (now s) ⌝ }
-    ensures { λ r. ⌜ (at ≤ r) × (r ≤ length (now (s .entry))) ⌝ }
-{
-    let mut i = at;
-    while i < s.len() {
-        if s[i] == b {
-            return i;
-        }
-        i += 1;
-    }
-    i
-}
-
 // ---- a case
 
 // One changed cell.
@@ -111,8 +46,8 @@ fn change(
     const_words: &mut [u64],
     texts: &mut [u8],
 ) {
-    let at = cell_at(line);
-    let v = value_at(line);
+    let at = lists::decimal_at(line, 2);
+    let v = lists::number_at(line, 8, 16);
     let b = (v % 256) as u8;
     match slices::byte_at(line, 0, 1) {
         b't' => slices::put_word(table, 0, at, v),
@@ -134,7 +69,7 @@ fn change_all(
 ) {
     let mut at = 0;
     while at < s.len() {
-        let e = find(s, at, b'\n');
+        let e = lists::find(s, at, b'\n');
         change(&s[at..e], table, code, const_kinds, const_words, texts);
         at = e + 1;
     }
@@ -149,11 +84,11 @@ fn check(
     const_words: &[u64],
     texts: &[u8],
 ) {
-    let a = lent(line, 1, table.len());
-    let b = lent(line, 2, code.len());
-    let c = lent(line, 3, const_kinds.len());
-    let d = lent(line, 4, const_words.len());
-    let e = lent(line, 5, texts.len());
+    let a = lists::lent(line, 1, table.len());
+    let b = lists::lent(line, 2, code.len());
+    let c = lists::lent(line, 3, const_kinds.len());
+    let d = lists::lent(line, 4, const_words.len());
+    let e = lists::lent(line, 5, texts.len());
     let r = checker::check(
         &table[..a],
         &code[..b],
@@ -171,7 +106,7 @@ fn run(s: &[u8], line: &[u8]) {
     let mut const_kinds = [0u8; 8449];
     let mut const_words = [0u64; 8449];
     let mut texts = [0u8; 32769];
-    let n = find(s, 0, b'=');
+    let n = lists::find(s, 0, b'=');
     let r = reader::read(
         &s[..n],
         &mut table,
@@ -223,7 +158,7 @@ fn play(s: &[u8]) {
     let mut at = 0;
     let mut start = 0;
     while at < s.len() {
-        let e = find(s, at, b'\n');
+        let e = lists::find(s, at, b'\n');
         start = play_line(s, start, at, e);
         at = e + 1;
     }

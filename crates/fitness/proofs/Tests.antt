@@ -6,7 +6,8 @@ use native.Mathlib.Omega.{arith}
 use native.Mathlib.Numerals.{add-one}
 use borrow.Author.Tests.{ltb-true, ltb-false, not-true, not-false}
 use lib.Dec.{ltb}
-use Rattle.checker.proofs.Bools.{and-right, test-cases}
+use Rattle.image.proofs.Cases.{by-bool}
+use Rattle.checker.proofs.Bools.{and-right}
 use Rattle.fitness.specs.Fit.{allBelow}
 
 pub and-left : (a b : Bool) → a && b ≡ true → a ≡ true
@@ -36,14 +37,14 @@ pub all-at : (t : ℕ → Bool) (n : ℕ) → allBelow t n ≡ true → (i : ℕ
 unfolding allBelow
 all-at t zero e i h = absurd (omega arith)
 all-at t (suc n) e i h =
-    test-cases (ltb i n) (λ l. all-at t n (and-left (allBelow t n) (t n) e) i (ltb-true i n l))
+    by-bool (ltb i n) (λ l. all-at t n (and-left (allBelow t n) (t n) e) i (ltb-true i n l))
     (λ l. let g : n ≤ i = ltb-false i n l in
     let q : i ≡ n = omega arith in
     rw q (and-right (allBelow t n) (t n) e))
 
 pub all-fails : (t : ℕ → Bool) (n i : ℕ) → i < n → t i ≡ false → false ≡ allBelow t n
 all-fails t n i h f =
-    test-cases (allBelow t n) (λ e. absurd (false≢true (sym f ∙ all-at t n e i h))) (λ e. sym e)
+    by-bool (allBelow t n) (λ e. absurd (false≢true (sym f ∙ all-at t n e i h))) (λ e. sym e)
 
 pub all-end : (t : ℕ → Bool) (i n : ℕ) → i ≤ n → n ≤ i → allBelow t i ≡ true → true ≡ allBelow t n
 all-end t i n h g e = let q : i ≡ n = omega arith in sym (rw q at e)

@@ -1,7 +1,6 @@
 -- The frames of an image, one a line, each judged by itself: 1 where the line is no text of pairs, 2 where it says nothing that a frame can say. Assumes nothing.
-use Prim.Native.Nat.{ℕ, _+_, _-_}
-use mathlib.Core.List.{List, [], _∷_, map}
-use mathlib.Core.Bool.{Bool, true, false}
+use Prim.Native.Nat.{ℕ}
+use mathlib.Core.List.{List, map}
 use lib.ListN.{length, getD, take, drop}
 use lib.Dec.{leb, ltb, eqb}
 use Rattle.image.specs.Hex.{pick, paired, bytesOf, wordFrom}

@@ -10,8 +10,7 @@
 //   .01211               the image is read; each slice is one cell short (0), as published (1) or one cell longer (2)
 use image::Judged;
 use writer::Wrote;
-ghost use Prim.Native.Nat.{_≤_, _<_};
-ghost use lib.ListN.{length};
+ghost use Prim.Native.Nat.{_<_};
 
 // The room for an image: a byte more than may be read, and some.
 const ROOM: usize = 65600;
@@ -84,33 +83,6 @@ fn print_wrote(r: Wrote) {
 
 // ---- a line of the list
 
-// Digit i of a line.
-fn digit_at(line: &[u8], i: usize) -> usize
-    ensures { λ r. ⌜ r ≤ 15 ⌝ }
-{
-    (slices::byte_at(line, 0, i) % 16) as usize
-}
-
-// A line's first five digits.
-fn count_at(line: &[u8]) -> usize
-    ensures { λ r. ⌜ r ≤ 166665 ⌝ }
-{
-    let thousands = digit_at(line, 0) * 10 + digit_at(line, 1);
-    let tens = digit_at(line, 2) * 10 + digit_at(line, 3);
-    thousands * 1000 + tens * 10 + digit_at(line, 4)
-}
-
-// How many of the n cells of a slice are lent: two fewer, one fewer or all of them, as digit i of a line has it.
-fn lent(line: &[u8], i: usize, n: usize) -> usize
-    ensures { λ r. ⌜ r ≤ n ⌝ }
-{
-    let fewer = 2 - digit_at(line, i) % 3;
-    if n < fewer {
-        return n;
-    }
-    n - fewer
-}
-
 fn said(b: u8) -> u8 {
     match b {
         b';' => 10,
@@ -145,7 +117,7 @@ fn append(line: &[u8], image: &mut [u8], top: usize) -> usize {
     if ROOM < top {
         return top;
     }
-    let count = count_at(line);
+    let count = lists::decimal_at(line, 0);
     if count < 1 {
         return top;
     }
@@ -164,11 +136,11 @@ fn read(
     const_words: &mut [u64],
     texts: &mut [u8],
 ) {
-    let a = lent(line, 1, table.len());
-    let b = lent(line, 2, code.len());
-    let c = lent(line, 3, const_kinds.len());
-    let d = lent(line, 4, const_words.len());
-    let e = lent(line, 5, texts.len());
+    let a = lists::lent(line, 1, table.len());
+    let b = lists::lent(line, 2, code.len());
+    let c = lists::lent(line, 3, const_kinds.len());
+    let d = lists::lent(line, 4, const_words.len());
+    let e = lists::lent(line, 5, texts.len());
     let r = reader::read(
         image,
         &mut table[..a],
@@ -196,11 +168,11 @@ fn write(
     texts: &[u8],
     out: &mut [u8],
 ) {
-    let a = lent(line, 1, table.len());
-    let b = lent(line, 2, code.len());
-    let c = lent(line, 3, const_kinds.len());
-    let d = lent(line, 4, const_words.len());
-    let e = lent(line, 5, texts.len());
+    let a = lists::lent(line, 1, table.len());
+    let b = lists::lent(line, 2, code.len());
+    let c = lists::lent(line, 3, const_kinds.len());
+    let d = lists::lent(line, 4, const_words.len());
+    let e = lists::lent(line, 5, texts.len());
     if out.len() < n {
         return;
     }
@@ -269,20 +241,6 @@ fn run(image: &[u8], n: usize, line: &[u8]) {
 
 // ---- the list
 
-fn line_end(s: &[u8], at: usize) -> usize
-    requires { ⌜ at ≤ length (now s) ⌝ }
-    ensures { λ r. ⌜ (at ≤ r) × (r ≤ length (now (s .entry))) ⌝ }
-{
-    let mut i = at;
-    while i < s.len() {
-        if s[i] == b'\n' {
-            return i;
-        }
-        i += 1;
-    }
-    i
-}
-
 // One line; how long the image is then.
 fn play_line(line: &[u8], image: &mut [u8], top: usize) -> usize {
     let kind = slices::byte_at(line, 0, 0);
@@ -302,7 +260,7 @@ fn play(s: &[u8], image: &mut [u8]) {
     let mut at = 0;
     let mut top = 0;
     while at < s.len() {
-        let e = line_end(s, at);
+        let e = lists::find(s, at, b'\n');
         top = play_line(&s[at..e], image, top);
         at = e + 1;
     }

@@ -2,9 +2,9 @@
 use mathlib.Core.Path.{_≡_, refl}
 use Prim.Native.Nat.{ℕ, zero, suc, _+_}
 use lib.Dec.{eqb}
+use Rattle.image.proofs.Cases.{by-bool}
 use Rattle.storage.specs.Layout.{Storage}
 use Rattle.fitness.specs.Fit.{State}
-use Rattle.checker.proofs.Bools.{test-cases}
 use Rattle.vm.specs.Step.{Turn, on, stop, fault, stepOf}
 use Rattle.vm.specs.Run.{ended, answerOf, standingOf, after, runFrom, runOf}
 use Rattle.laws.specs.Statements.{Steps, none, more, Counted, stood, spent, stopped, faulted, CountsSteps}
@@ -33,4 +33,4 @@ module _ (S : Storage) where
 pub counted : CountsSteps
 unfolding runOf
 counted S s b =
-    test-cases (eqb ((standingOf S s) .number) 70) (λ e. rw e (from S s b 0 s none)) (λ e. rw e stood)
+    by-bool (eqb ((standingOf S s) .number) 70) (λ e. rw e (from S s b 0 s none)) (λ e. rw e stood)

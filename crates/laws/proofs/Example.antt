@@ -8,6 +8,7 @@ use borrow.Author.Tests.{eqb-true, eqb-false}
 use lib.Dec.{eqb}
 use lib.ListN.{drop}
 use lib.Seq.{take-append-seam}
+use Rattle.image.proofs.Cases.{by-bool}
 use Rattle.image.specs.Hex.{digitOf, paired, bytesOf, wordFrom}
 use Rattle.image.specs.Lines.{onto, lines}
 use Rattle.image.specs.Frames.{F, opens, const, code, ends, shape, openBytes, payload, mostOf, wordBytesOf, constBytes, codeBytes, endBytes, kindBytes, frameOf, lineFrame, framesOf}
@@ -25,7 +26,6 @@ use Rattle.checker.specs.Rules.{carried, tidy, registersIn, constantsIn, inside
 use Rattle.checker.specs.Check.{checkOf}
 use Rattle.checker.specs.declared.Checked.the-variants.{Accepted}
 use Rattle.checker.specs.Kept.{KeptAt, Sound, Demanded}
-use Rattle.checker.proofs.Bools.{test-cases}
 use Rattle.checker.proofs.Exact.{exact}
 use Rattle.fitness.specs.Fit.{allBelow}
 use Rattle.starter.specs.Start.{permitted, checkedStart, startOf}
@@ -77,7 +77,7 @@ module _ (x y : List ℕ) where
 
   each : (i : ℕ) → i < 2 → KeptAt table codes 0 i
   each i h =
-      test-cases (eqb i 0) (λ e. let z : i ≡ 0 = eqb-true i 0 e in rw z first)
+      by-bool (eqb i 0) (λ e. let z : i ≡ 0 = eqb-true i 0 e in rw z first)
       (λ e. let n = eqb-false i 0 e in
       let z : i ≡ 1 = omega (arith, n) in
       rw z second)

@@ -6,12 +6,12 @@ use native.Mathlib.Omega.{arith}
 use lib.Dec.{eqb, leb, ltb}
 use lib.ListN.{getD, set}
 use lib.Seq.{getD-set-other}
+use Rattle.image.proofs.Cases.{by-bool}
 use Rattle.storage.specs.Layout.{Storage}
 use Rattle.storage.specs.Fields.{registersOf}
 use Rattle.checker.specs.declared.Instruction.{Instruction}
 use Rattle.checker.specs.declared.Instruction.the-variants as instruction
 use Rattle.checker.specs.Check.{limitsOf}
-use Rattle.checker.proofs.Bools.{test-cases}
 use Rattle.activation.specs.Frames.{markIn, depthWith, instructionWith, openedWith}
 use Rattle.activation.specs.Record.{innermost}
 use Rattle.activation.specs.declared.Activation.{Activation}
@@ -62,9 +62,9 @@ module _ (table code : List ℕ) (a : Activation) (s : State) where
   enters : (function arguments : ℕ) → Marks s (enterOf table a s function arguments)
   unfolding enterOf called
   enters function arguments =
-      test-cases (eqb (getD (s .kinds) (a .base + function) 0) 5)
-      (λ e. rw e (test-cases (leb 16 (a .depth)) (λ f. rw f (refl, omega arith))
-      (λ f. rw f (test-cases (ltb 2048 (a .base + registersOf table (a .prototype) + registersOf table (getD (s .words) (a .base + function) 0)))
+      by-bool (eqb (getD (s .kinds) (a .base + function) 0) 5)
+      (λ e. rw e (by-bool (leb 16 (a .depth)) (λ f. rw f (refl, omega arith))
+      (λ f. rw f (by-bool (ltb 2048 (a .base + registersOf table (a .prototype) + registersOf table (getD (s .words) (a .base + function) 0)))
       (λ g. rw g (refl, omega arith))
       (λ g. rw g (calls (calleeOf table a (getD (s .words) (a .base + function) 0))))))))
       (λ e. rw e (refl, omega arith))
@@ -90,7 +90,7 @@ module _ (table code : List ℕ) (a : Activation) (s : State) where
   leaves : (start n : ℕ) → Marks s (leaveOf table code a s start n)
   unfolding leaveOf
   leaves start n =
-      test-cases (leb (a .depth) 1) (λ e. rw e (refl, omega arith))
+      by-bool (leb (a .depth) 1) (λ e. rw e (refl, omega arith))
       (λ e. rw e (backs (callerOf table (s .frames) a) start n (beforeIn table code (s .frames) (a .depth - 2))))
 
   carried : (q p : ℕ) (e : Effect) → Suits (limitsOf table q) p e → Marks s (carriedOut table code a s e)

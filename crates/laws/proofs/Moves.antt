@@ -3,17 +3,13 @@ use mathlib.Core.Path.{_≡_}
 use Prim.Native.Nat.{ℕ, _+_, _<_, _≤_}
 use native.Mathlib.Omega.{arith}
 use borrow.Author.Tests.{lt-ltb}
-use lib.Dec.{ltb}
-use Rattle.image.proofs.Cases.{pick-cases}
 use Rattle.activation.specs.Record.{following}
 use Rattle.activation.specs.declared.Activation.{Activation}
+use Rattle.activation.proofs.Windows.{following-most}
 use Rattle.effects.specs.declared.Go.{Go}
 use Rattle.effects.specs.declared.Go.the-variants.{Next, Skip, To}
 use Rattle.reach.specs.Suits.{Goes}
 use Rattle.vm.specs.Step.{placed}
-
-following-most : (p : ℕ) → following p ≤ p + 1
-following-most p = pick-cases (λ (x : ℕ). x ≤ p + 1) (ltb p 0xffff_ffff_ffff_ffff) (p + 1) p (λ _. omega arith) (λ _. omega arith)
 
 pub following-small : (p : ℕ) → p ≤ 65536 → following p ≡ p + 1
 following-small p h = rw (lt-ltb p 0xffff_ffff_ffff_ffff (omega arith))

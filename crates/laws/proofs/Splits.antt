@@ -8,8 +8,8 @@ use borrow.Author.Tests.{ne-eqb, eqb-true}
 use lib.Dec.{eqb}
 use lib.ListN.{length, length-set}
 use lib.Seq.{getD-set-same}
+use Rattle.image.proofs.Cases.{by-bool}
 use Rattle.storage.specs.Layout.{Storage}
-use Rattle.checker.proofs.Bools.{test-cases}
 use Rattle.activation.specs.Frames.{markIn}
 use Rattle.fitness.specs.Fit.{State, fitOf}
 use Rattle.vm.specs.Step.{Turn, on, stop, fault, marked, stepOf}
@@ -155,11 +155,11 @@ module _ (S : Storage) where
   running : (s : State) → (standingOf S s) .number ≡ 70 → (fitOf S s ≡ true) × (markIn (s .frames) ≡ 70)
   unfolding standingOf
   running s =
-      test-cases (fitOf S s) (λ e. rw e (λ h. (refl, sym (number-of (markIn (s .frames)) 0 s) ∙ h))) (λ e. rw e (λ h. absurd (omega arith)))
+      by-bool (fitOf S s) (λ e. rw e (λ h. (refl, sym (number-of (markIn (s .frames)) 0 s) ∙ h))) (λ e. rw e (λ h. absurd (omega arith)))
 
   nothing-counted : (s : State) → (standingOf S s) .count ≡ 0
   unfolding standingOf
-  nothing-counted s = test-cases (fitOf S s) (λ e. rw e (count-of (markIn (s .frames)) 0 s)) (λ e. rw e)
+  nothing-counted s = by-bool (fitOf S s) (λ e. rw e (count-of (markIn (s .frames)) 0 s)) (λ e. rw e)
 
   -- ---- two answers as one
 
@@ -228,7 +228,7 @@ module _ (S : Storage) where
 
 pub split-any : SplitAny
 split-any S s a b h =
-    test-cases (eqb ((standingOf S s) .number) 70)
+    by-bool (eqb ((standingOf S s) .number) 70)
     (λ e. let n = eqb-true ((standingOf S s) .number) 70 e in
     splits-running S a b s (running S s n .0) (running S s n .1) (h n))
     (splits-stood S a b s)

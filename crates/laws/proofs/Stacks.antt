@@ -8,8 +8,9 @@ use borrow.Author.Tests.{ltb-true, lt-ltb, eqb-true, eqb-false}
 use lib.Dec.{ltb, eqb}
 use lib.ListN.{length, length-set}
 use lib.Seq.{getD-set-same, getD-set-other}
+use Rattle.image.proofs.Cases.{by-bool}
 use Rattle.storage.specs.Fields.{prototypesOf, registersOf, instructionsOf}
-use Rattle.checker.proofs.Bools.{and-right, test-cases}
+use Rattle.checker.proofs.Bools.{and-right}
 use Rattle.activation.specs.Frames.{markIn, depthIn, prototypeIn, instructionIn, baseOf, markWith, depthWith, instructionWith, openedWith}
 use Rattle.fitness.specs.Fit.{thereIn, waitsIn}
 use Rattle.fitness.proofs.Tests.{and-left}
@@ -132,7 +133,7 @@ module _ (table code : List ℕ) where
 
     there-gone : (i : ℕ) → i < depthIn f → thereIn table gone i ≡ true
     there-gone i l =
-        test-cases (eqb i top)
+        by-bool (eqb i top)
         (λ e. let q : i ≡ top = eqb-true i top e in
         rw q
         (there-of table gone top (prototypeIn f top) x (prototype-gone f top x top) place-gone
@@ -201,7 +202,7 @@ module _ (table code : List ℕ) where
           inside = rw base-grown fits;
           there = (λ i m.
               let g : i < d + 1 = rw depth-grown at m in
-              test-cases (eqb i d)
+              by-bool (eqb i d)
               (λ e. let s : i ≡ d = eqb-true i d e in
               rw s (there-of table grown d q 0 prototype-grown instruction-grown known some))
               (λ e. let o = eqb-false i d e in
@@ -209,6 +210,6 @@ module _ (table code : List ℕ) where
           waits = (λ i m.
               let g : i < d + 1 - 1 = rw depth-grown at m in
               waits-same table code f grown i (same-grown i (λ e. omega arith))
-              ∙ test-cases (eqb i (d - 1)) (λ e. let s : i ≡ d - 1 = eqb-true i (d - 1) e in rw s waiting)
+              ∙ by-bool (eqb i (d - 1)) (λ e. let s : i ≡ d - 1 = eqb-true i (d - 1) e in rw s waiting)
               (λ e. let o = eqb-false i (d - 1) e in h .waits i (rw ed (omega (arith, o)))));
         }

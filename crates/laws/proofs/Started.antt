@@ -8,6 +8,7 @@ use borrow.Author.Tests.{ltb-true}
 use lib.Dec.{eqb, leb, ltb}
 use lib.ListN.{length, getD, length-set}
 use lib.Seq.{getD-set-same, getD-set-other}
+use Rattle.image.proofs.Cases.{by-bool}
 use Rattle.storage.specs.Layout.{Storage}
 use Rattle.storage.specs.Fields.{prototypesOf, registersOf, parametersOf, instructionsOf}
 use Rattle.constant.specs.Values.{isValue}
@@ -15,7 +16,7 @@ use Rattle.checker.specs.Check.{checkOf}
 use Rattle.checker.specs.Kept.{Demanded}
 use Rattle.checker.specs.declared.Checked.{Checked}
 use Rattle.checker.specs.declared.Checked.the-variants.{Accepted, Refused}
-use Rattle.checker.proofs.Bools.{and-right, test-cases}
+use Rattle.checker.proofs.Bools.{and-right}
 use Rattle.checker.proofs.Exact.{exact}
 use Rattle.activation.specs.Frames.{markIn, depthIn, prototypeIn, instructionIn, baseOf, markWith, depthWith, openedWith}
 use Rattle.activation.specs.Window.{fewer}
@@ -48,12 +49,12 @@ module _ (S : Storage) (argKinds argWords : List ℕ) (s t : State) where
   passed : Begun S argKinds argWords s t → Passed
   unfolding startOf checkedStart
   passed e =
-      test-cases (stateLong s) (λ l. by-check l (checkOf S) refl (rw l at e)) (λ l. absurd (refused-apart 5 0 0 s t (rw l at e)))
+      by-bool (stateLong s) (λ l. by-check l (checkOf S) refl (rw l at e)) (λ l. absurd (refused-apart 5 0 0 s t (rw l at e)))
     where
       by-check :
           stateLong s ≡ true → (c : Checked) → checkOf S ≡ c → checkedStart c (S .table) argKinds argWords s ≡ started Accepted t → Passed
       by-check l Accepted c e =
-          test-cases (permitted argKinds argWords)
+          by-bool (permitted argKinds argWords)
           (λ p. record { long = l; accepted = c; arguments = p; left = sym (ap (λ (x : Started). x .state) (rw p at e)) })
           (λ p. absurd (refused-apart 20 0 0 s t (rw p at e)))
       by-check l (Refused n q i) c e = absurd (refused-apart n q i s t e)

@@ -4,16 +4,16 @@ use mathlib.Core.Bool.{true}
 use mathlib.Core.List.{List}
 use Prim.Native.Nat.{ℕ, zero, suc, _+_, _-_, _<_, _≤_}
 use native.Mathlib.Omega.{arith}
-use borrow.Author.Tests.{ltb-true, ltb-false, eqb-true, eqb-false}
-use lib.Dec.{ltb, eqb}
+use borrow.Author.Tests.{eqb-true, eqb-false}
+use lib.Dec.{eqb}
 use lib.ListN.{length, getD, set, length-set}
 use lib.Seq.{getD-set-same, getD-set-other}
 use Rattle.slices.specs.Ranges.{copyWithin, copyFrom, fillOf}
-use Rattle.checker.proofs.Bools.{test-cases}
+use Rattle.image.proofs.Cases.{by-bool}
 use Rattle.activation.specs.Window.{fewer, windowOf, windowFrom}
+use Rattle.activation.proofs.Windows.{fewer-first, fewer-within}
 use Rattle.constant.specs.Values.{isValue}
 use Rattle.fitness.specs.Fit.{valueFits, registerFits}
-use Rattle.laws.proofs.Choices.{cond-cases}
 
 -- ---- lengths stay
 
@@ -41,10 +41,10 @@ unfolding windowFrom
 length-first from l n size = rw (length-fill, length-from)
 
 pub fewer-left : (a b : ℕ) → fewer a b ≤ a
-fewer-left a b = cond-cases (λ (x : ℕ). x ≤ a) (ltb a b) a b (λ _. omega arith) (λ e. let h : b ≤ a = ltb-false a b e in h)
+fewer-left a b = fewer-first a b (fewer a b) refl
 
 pub fewer-right : (a b : ℕ) → fewer a b ≤ b
-fewer-right a b = cond-cases (λ (x : ℕ). x ≤ b) (ltb a b) a b (λ e. let h : a < b = ltb-true a b e in omega arith) (λ _. omega arith)
+fewer-right a b = fewer-within a b (fewer a b) refl
 
 -- ---- registers that hold values
 
@@ -75,7 +75,7 @@ module _ (t c : List ℕ) where
       → ((j : ℕ) → j < m' → (j ≡ i → ⊥) → j < m) → Valid t c m k w → Valid t c m' (set k i x) (set w i y)
   unfolding Valid registerFits
   put m m' i x y k w lk lw ok among v j h =
-      test-cases (eqb j i)
+      by-bool (eqb j i)
       (λ e. let q : j ≡ i = eqb-true j i e in
       let hk : i < length k = omega arith in
       let hw : i < length w = omega arith in

@@ -10,7 +10,7 @@ use borrow.Author.Tests.{eqb-true, eqb-false, ltb-true}
 use Rattle.image.specs.Frames.{F, opens, const, str, code, shape}
 use Rattle.image.specs.declared.Counts.{Counts}
 use Rattle.image.specs.declared.Step.the-variants.{On, Done}
-use Rattle.image.proofs.Cases.{pick-cases}
+use Rattle.image.proofs.Cases.{by-bool, pick-cases}
 use Rattle.image.proofs.Said.{Said, AllSaid, more}
 use Rattle.image.proofs.Trip.{accepted-said}
 use Rattle.storage.specs.Layout.{Storage, longEnough, textsOf, textsAll}
@@ -24,7 +24,7 @@ use Rattle.storage.proofs.Lies.{Stands, all, lies-rest}
 use Rattle.storage.proofs.Seen.{Constant, end-seen, word-seen, text-seen}
 use Rattle.storage.proofs.Reading.{reads-frames}
 use Rattle.storage.proofs.Six.{readable}
-use Rattle.checker.proofs.Bools.{test-cases, and-right}
+use Rattle.checker.proofs.Bools.{and-right}
 use Rattle.checker.specs.Check.{limitsOf}
 use Rattle.checker.specs.declared.Limits.{Limits}
 use Rattle.checker.specs.declared.Instruction.{Instruction}
@@ -72,7 +72,7 @@ module _ (S : Storage) (q i : ℕ) (string : getD (S .kinds) i 0 ≡ 4) (there :
 
   -- at the next constant, or later
   at-or-on : (c : ℕ) → c ≤ i → (c ≡ i → Inside) → (c + 1 ≤ i → Inside) → Inside
-  at-or-on c h f g = test-cases (eqb c i) (λ e. f (eqb-true c i e)) (λ e. let n : c ≡ i → ⊥ = eqb-false c i e in g (omega arith))
+  at-or-on c h f g = by-bool (eqb c i) (λ e. f (eqb-true c i e)) (λ e. let n : c ≡ i → ⊥ = eqb-false c i e in g (omega arith))
 
   inside-next :
       {st u : Counts} {f : F} {fs : List F} → Told st f (On u) → Runs u q fs → Said f
@@ -170,7 +170,7 @@ module _ (S : Storage) (s : State) where
   standing-window : (standingOf S s) .number ≡ 0 → registersOf (S .table) ((standingOf S s) .prototype) ≤ 2048
   unfolding standingOf answerOf
   standing-window =
-      test-cases (fitOf S s)
+      by-bool (fitOf S s)
       (λ f. rw f (λ n. let y = fit-steady S s f in
       omega (arith, y .ends, last-window (S .table) (s .frames) (depthIn (s .frames)) (y .some))))
       (λ f. rw f (λ n. absurd (omega arith)))
@@ -179,6 +179,6 @@ module _ (S : Storage) (s : State) where
   unfolding returnedOf
   values-inside =
       let o = standingOf S s in
-      test-cases (eqb (o .number) 0)
+      by-bool (eqb (o .number) 0)
       (λ n. rw n (omega (arith, named-inside (limitsOf (S .table) (o .prototype)) (o .instruction) o (decodedAt (S .table) (S .code) (o .prototype) (o .instruction)) (decoded-within (S .table) (S .code) (o .prototype) (o .instruction)), standing-window (eqb-true _ _ n))))
       (λ n. rw n (omega arith))

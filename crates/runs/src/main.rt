@@ -240,21 +240,6 @@ fn run(s: &[u8]) -> u8 {
 
 // ---- the list
 
-// Where the line from `at` on ends.
-fn line_end(s: &[u8], at: usize) -> usize
-    requires { ⌜ at ≤ length (now s) ⌝ }
-    ensures { λ r. ⌜ (at ≤ r) × (r ≤ length (now (s .entry))) ⌝ }
-{
-    let mut i = at;
-    while i < s.len() {
-        if s[i] == b'\n' {
-            return i;
-        }
-        i += 1;
-    }
-    i
-}
-
 // Where the line that ends at e has its last byte behind it: after the LF, where there is one.
 fn behind(s: &[u8], e: usize) -> usize
     requires { ⌜ e ≤ length (now s) ⌝ }
@@ -322,7 +307,7 @@ fn play(s: &[u8]) {
         },
     };
     while at < s.len() {
-        let e = line_end(s, at);
+        let e = lists::find(s, at, b'\n');
         p = play_line(s, p, at, e);
         at = e + 1;
     }

@@ -17,7 +17,6 @@ use checker::Checked;
 use image::Judged;
 use vm::Outcome;
 ghost use Prim.Native.Nat.{_≤_};
-ghost use lib.ListN.{length};
 
 // ---- what is written
 
@@ -78,64 +77,15 @@ fn print_bytes(slice: &[u8], was: &[u8], is: &[u8]) {
 
 // ---- a line of the list
 
-// A hexadecimal digit's value.
-fn hex(b: u8) -> u64
-    ensures { λ r. ⌜ r ≤ 15 ⌝ }
-{
-    let low = (b % 16) as u64;
-    if b < b'a' {
-        return low;
-    }
-    (low + 9) % 16
-}
-
-// The number that the n digits from `at` on say.
-fn number_at(line: &[u8], at: usize, n: usize) -> u64 {
-    let mut v: u64 = 0;
-    let mut i = 0;
-    while i < n {
-        let d = hex(slices::byte_at(line, at, i));
-        v = (v % 0x1000_0000_0000_0000) * 16 + d;
-        i += 1;
-    }
-    v
-}
-
-// How many of the n cells of a slice are lent: two fewer, one fewer or all of them, as digit i of a line has it.
-fn lent(line: &[u8], i: usize, n: usize) -> usize
-    ensures { λ r. ⌜ r ≤ n ⌝ }
-{
-    let fewer = 2 - (slices::byte_at(line, 0, i) % 3) as usize;
-    if n < fewer {
-        return n;
-    }
-    n - fewer
-}
-
 // How many of the n arguments' kinds or words are lent, as digit i of a line has it.
 fn count_at(line: &[u8], i: usize, n: usize) -> usize
     ensures { λ r. ⌜ r ≤ n ⌝ }
 {
-    let count = hex(slices::byte_at(line, 0, i)) as usize;
+    let count = lists::digit_at(line, 0, i);
     if n < count {
         return n;
     }
     count
-}
-
-// Where the first byte b at or after `at` stands; the length where there is none.
-fn find(s: &[u8], at: usize, b: u8) -> usize
-    requires { ⌜ at ≤ length (now s) ⌝ }
-    ensures { λ r. ⌜ (at ≤ r) × (r ≤ length (now (s .entry))) ⌝ }
-{
-    let mut i = at;
-    while i < s.len() {
-        if s[i] == b {
-            return i;
-        }
-        i += 1;
-    }
-    i
 }
 
 // ---- changes
@@ -178,7 +128,7 @@ fn change(
     kinds: &mut [u8],
     words: &mut [u64],
 ) {
-    let colon = find(line, 0, b':');
+    let colon = lists::find(line, 0, b':');
     if colon < 2 {
         return;
     }
@@ -186,8 +136,8 @@ fn change(
         return;
     }
     let first = colon + 1;
-    let i = number_at(line, 2, colon - 2) as usize;
-    let v = number_at(line, first, line.len() - first);
+    let i = lists::number_at(line, 2, colon - 2) as usize;
+    let v = lists::number_at(line, first, line.len() - first);
     put(
         slices::byte_at(line, 0, 1),
         i,
@@ -216,9 +166,9 @@ fn take_arguments(line: &[u8], kinds: &mut [u8], words: &mut [u64]) {
     let mut i = 0;
     while i < 15 {
         let at = 12 + 18 * i;
-        let k = (number_at(line, at, 2) % 256) as u8;
+        let k = (lists::number_at(line, at, 2) % 256) as u8;
         slices::put_byte(kinds, 0, i, k);
-        slices::put_word(words, 0, i, number_at(line, at + 2, 16));
+        slices::put_word(words, 0, i, lists::number_at(line, at + 2, 16));
         i += 1;
     }
 }
@@ -236,14 +186,14 @@ fn start_with(
     arg_kinds: &[u8],
     arg_words: &[u64],
 ) {
-    let a = lent(line, 1, table.len());
-    let b = lent(line, 2, code.len());
-    let c = lent(line, 3, const_kinds.len());
-    let d = lent(line, 4, const_words.len());
-    let e = lent(line, 5, texts.len());
-    let f = lent(line, 6, frames.len());
-    let g = lent(line, 7, kinds.len());
-    let h = lent(line, 8, words.len());
+    let a = lists::lent(line, 1, table.len());
+    let b = lists::lent(line, 2, code.len());
+    let c = lists::lent(line, 3, const_kinds.len());
+    let d = lists::lent(line, 4, const_words.len());
+    let e = lists::lent(line, 5, texts.len());
+    let f = lists::lent(line, 6, frames.len());
+    let g = lists::lent(line, 7, kinds.len());
+    let h = lists::lent(line, 8, words.len());
     let n = count_at(line, 10, arg_kinds.len());
     let m = count_at(line, 11, arg_words.len());
     let r = starter::start(
@@ -301,15 +251,15 @@ fn run(
     kinds: &mut [u8],
     words: &mut [u64],
 ) {
-    let budget = (number_at(line, 10, 8) % 0x1_0000_0000) as u32;
-    let a = lent(line, 1, table.len());
-    let b = lent(line, 2, code.len());
-    let c = lent(line, 3, const_kinds.len());
-    let d = lent(line, 4, const_words.len());
-    let e = lent(line, 5, texts.len());
-    let f = lent(line, 6, frames.len());
-    let g = lent(line, 7, kinds.len());
-    let h = lent(line, 8, words.len());
+    let budget = (lists::number_at(line, 10, 8) % 0x1_0000_0000) as u32;
+    let a = lists::lent(line, 1, table.len());
+    let b = lists::lent(line, 2, code.len());
+    let c = lists::lent(line, 3, const_kinds.len());
+    let d = lists::lent(line, 4, const_words.len());
+    let e = lists::lent(line, 5, texts.len());
+    let f = lists::lent(line, 6, frames.len());
+    let g = lists::lent(line, 7, kinds.len());
+    let h = lists::lent(line, 8, words.len());
     let o = vm::run(
         &table[..a],
         &code[..b],
@@ -336,14 +286,14 @@ fn stand(
     kinds: &[u8],
     words: &[u64],
 ) {
-    let a = lent(line, 1, table.len());
-    let b = lent(line, 2, code.len());
-    let c = lent(line, 3, const_kinds.len());
-    let d = lent(line, 4, const_words.len());
-    let e = lent(line, 5, texts.len());
-    let f = lent(line, 6, frames.len());
-    let g = lent(line, 7, kinds.len());
-    let h = lent(line, 8, words.len());
+    let a = lists::lent(line, 1, table.len());
+    let b = lists::lent(line, 2, code.len());
+    let c = lists::lent(line, 3, const_kinds.len());
+    let d = lists::lent(line, 4, const_words.len());
+    let e = lists::lent(line, 5, texts.len());
+    let f = lists::lent(line, 6, frames.len());
+    let g = lists::lent(line, 7, kinds.len());
+    let h = lists::lent(line, 8, words.len());
     let o = vm::standing(
         &table[..a],
         &code[..b],
@@ -495,7 +445,7 @@ fn play_lines(
 ) {
     let mut at = 0;
     while at < s.len() {
-        let e = find(s, at, b'\n');
+        let e = lists::find(s, at, b'\n');
         play_line(
             &s[at..e],
             table,
@@ -521,13 +471,13 @@ fn play_case(s: &[u8]) {
     let mut frames = [0x5a5a_5a5a_5a5a_5a5au64; 35];
     let mut kinds = [0x5au8; 2309];
     let mut words = [0x5a5a_5a5a_5a5a_5a5au64; 2309];
-    let n = find(s, 0, b'\n');
+    let n = lists::find(s, 0, b'\n');
     if s.len() <= n {
         return;
     }
     let first = n + 1;
     io::write_all(1, &s[..first]);
-    let m = find(s, first, b'<');
+    let m = lists::find(s, first, b'<');
     let r = reader::read(
         &s[first..m],
         &mut table,
@@ -558,7 +508,7 @@ fn play_case(s: &[u8]) {
 fn play(s: &[u8]) {
     let mut at = 0;
     while at < s.len() {
-        let e = find(s, at + 1, b'#');
+        let e = lists::find(s, at + 1, b'#');
         play_case(&s[at..e]);
         at = e;
     }

@@ -7,7 +7,6 @@ use Rattle.types.specs.declared.MaybeByte.the-variants.{Some, None}
 use Rattle.types.specs.declared.Opt254.{Opt254}
 use Rattle.types.specs.declared.MaybeOpt254.{MaybeOpt254}
 use Rattle.types.specs.declared.MaybeOpt254.the-variants as held
-use Rattle.types.specs.declared.VarCount.{VarCount}
 use Rattle.types.specs.declared.MaybeVarCount.{MaybeVarCount}
 use Rattle.types.specs.declared.MaybeVarCount.the-variants as count
 

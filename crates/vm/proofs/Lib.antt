@@ -6,7 +6,6 @@ pub mod Pairs
 pub mod Arms
 pub mod Rules
 pub mod Quickly
-pub mod Ranges
 pub mod Clearing
 pub mod Calling
 pub mod Returning

@@ -8,13 +8,13 @@ use lib.Dec.{eqb}
 use Prim.Native.Nat.{ℕ}
 use denote.Enum.Declared.{tagOf}
 use types.Run.{OneOf, miss}
+use Rattle.image.proofs.Cases.{by-bool}
 use Rattle.checker.specs.Rules.{brokenOf}
 use Rattle.checker.specs.Decode.{decodeOf}
 use Rattle.checker.specs.declared.Limits.{Limits}
 use Rattle.checker.specs.declared.Instruction.{Instruction}
 use Rattle.checker.specs.declared.Instruction.the-variants.{Bad}
 use Rattle.checker.proofs.Instruction.{the-type}
-use Rattle.checker.proofs.Bools.{test-cases}
 use Rattle.checker.proofs.Lowest.{refused}
 use Rattle.checker.proofs.broken.Statement.{statement}
 use Rattle.checker.proofs.broken.Tie as tie
@@ -27,7 +27,7 @@ none-broken :
     (l : Limits) (p w : ℕ) (i : Instruction) → i ≡ decodeOf l p w → OneOf carried (tagOf the-type i) → 0 ≡ brokenOf l p w
 unfolding decodeOf
 none-broken l p w i e h =
-    test-cases (eqb (brokenOf l p w) 0) (λ t. sym (eqb-true _ _ t))
+    by-bool (eqb (brokenOf l p w) 0) (λ t. sym (eqb-true _ _ t))
     (λ t. let b : i ≡ Bad (brokenOf l p w) = rw t at e in
     absurd (miss carried 14 tt (rw b at h)))
 

@@ -21,19 +21,19 @@ lent-requires-5 : tie.Need-lent-requires-5
 lent-requires-5 c κs = search needs
 
 slice-aggregate-check : tie.Need-slice-aggregate-check
-slice-aggregate-check c = sym (length-take-le _ _ (c .before .before .before .before .before .lent .ensures))
+slice-aggregate-check c = sym (length-take-le _ _ (c .before .before .before .before .before .lent .ensures .1))
 
 slice-aggregate-check-2 : tie.Need-slice-aggregate-check-2
-slice-aggregate-check-2 c = sym (length-take-le _ _ (c .before .before .before .before .before .lent2 .ensures))
+slice-aggregate-check-2 c = sym (length-take-le _ _ (c .before .before .before .before .before .lent2 .ensures .1))
 
 slice-aggregate-check-3 : tie.Need-slice-aggregate-check-3
-slice-aggregate-check-3 c = sym (length-take-le _ _ (c .before .before .before .before .before .lent3 .ensures))
+slice-aggregate-check-3 c = sym (length-take-le _ _ (c .before .before .before .before .before .lent3 .ensures .1))
 
 slice-aggregate-check-4 : tie.Need-slice-aggregate-check-4
-slice-aggregate-check-4 c = sym (length-take-le _ _ (c .before .before .before .before .before .lent4 .ensures))
+slice-aggregate-check-4 c = sym (length-take-le _ _ (c .before .before .before .before .before .lent4 .ensures .1))
 
 slice-aggregate-check-5 : tie.Need-slice-aggregate-check-5
-slice-aggregate-check-5 c = sym (length-take-le _ _ (c .before .before .before .before .before .lent5 .ensures))
+slice-aggregate-check-5 c = sym (length-take-le _ _ (c .before .before .before .before .before .lent5 .ensures .1))
 
 check-requires : tie.Need-check-requires
 check-requires c κs = search needs

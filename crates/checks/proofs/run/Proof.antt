@@ -1,5 +1,6 @@
 -- `checks::run` is safe: the image ends within the case. Assumes nothing.
 use mathlib.Core.Path.{sym}
+use native.Mathlib.Omega.{arith}
 use lib.Seq.{length-take-le}
 use borrow.Author.Needs.{needs}
 use Rattle.checks.proofs.run.Statement.{statement}
@@ -9,7 +10,7 @@ find-requires : tie.Need-find-requires
 find-requires c κs = search needs
 
 slice-aggregate-read : tie.Need-slice-aggregate-read
-slice-aggregate-read c = sym (length-take-le _ _ (c .before .find .ensures .1))
+slice-aggregate-read c = sym (length-take-le _ _ (omega arith))
 
 slice-aggregate-read-2 : tie.Need-slice-aggregate-read-2
 slice-aggregate-read-2 c = search needs

@@ -22,8 +22,8 @@ returns-2 c = search needs
 returns-3 : tie.Need-returns-3
 returns-3 c = search needs
 
-count-at-requires : tie.Need-count-at-requires
-count-at-requires c κs = search needs
+decimal-at-requires : tie.Need-decimal-at-requires
+decimal-at-requires c κs = search needs
 
 returns-4 : tie.Need-returns-4
 returns-4 c = search needs
@@ -35,16 +35,16 @@ add-copy-bytes : tie.Need-add-copy-bytes
 add-copy-bytes c = search needs
 
 mul-copy-bytes : tie.Need-mul-copy-bytes
-mul-copy-bytes c = omega (arith, product (length (c .before .before .before .before .before .before .before .before .before .before .before .before .args .line .now) - 6) (c .before .before .before .before .before .before .count-at .result - 1) (c .before .before .before .before .before .before .before .before .if2 .left) (omega (arith, c .before .before .before .before .before .before .count-at .ensures)))
+mul-copy-bytes c = omega (arith, product (length (c .before .before .before .before .before .before .before .before .before .before .before .before .args .line .now) - 6) (c .before .before .before .before .before .before .decimal-at .result - 1) (c .before .before .before .before .before .before .before .before .if2 .left) (omega (arith, c .before .before .before .before .before .before .decimal-at .ensures .1)))
 
 copy-bytes-requires : tie.Need-copy-bytes-requires
 copy-bytes-requires c κs = search needs
 
 mul-result : tie.Need-mul-result
-mul-result c = omega (arith, product (length (c .before .before .before .before .before .before .before .before .before .before .before .before .before .before .before .args .line .now) - 6) (c .before .before .before .before .before .before .before .before .before .count-at .result) (c .before .before .before .before .before .before .before .before .before .before .before .if2 .left) (c .before .before .before .before .before .before .before .before .before .count-at .ensures))
+mul-result c = omega (arith, product (length (c .before .before .before .before .before .before .before .before .before .before .before .before .before .before .before .args .line .now) - 6) (c .before .before .before .before .before .before .before .before .before .decimal-at .result) (c .before .before .before .before .before .before .before .before .before .before .before .if2 .left) (c .before .before .before .before .before .before .before .before .before .decimal-at .ensures .1))
 
 add-result : tie.Need-add-result
-add-result c = omega (arith, product (length (c .before .before .before .before .before .before .before .before .before .before .before .before .before .before .before .args .line .now) - 6) (c .before .before .before .before .before .before .before .before .before .count-at .result) (c .before .before .before .before .before .before .before .before .before .before .before .if2 .left) (c .before .before .before .before .before .before .before .before .before .count-at .ensures), c .before .before .before .before .before .before .before .before .before .before .if3 .left)
+add-result c = omega (arith, product (length (c .before .before .before .before .before .before .before .before .before .before .before .before .before .before .before .args .line .now) - 6) (c .before .before .before .before .before .before .before .before .before .decimal-at .result) (c .before .before .before .before .before .before .before .before .before .before .before .if2 .left) (c .before .before .before .before .before .before .before .before .before .decimal-at .ensures .1), c .before .before .before .before .before .before .before .before .before .before .if3 .left)
 
 same-length : tie.Need-same-length
 same-length c = search needs
@@ -60,7 +60,7 @@ append-spec =
     sub-n
     returns-2
     returns-3
-    count-at-requires
+    decimal-at-requires
     returns-4
     put-said-requires
     add-copy-bytes

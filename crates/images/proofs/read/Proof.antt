@@ -24,31 +24,31 @@ slice-relend-prefix-read : tie.Need-slice-relend-prefix-read
 slice-relend-prefix-read c = search needs
 
 slice-aggregate-read : tie.Need-slice-aggregate-read
-slice-aggregate-read c = sym (length-take-le _ _ (c .before .before .before .before .before .lent .ensures))
+slice-aggregate-read c = sym (length-take-le _ _ (c .before .before .before .before .before .lent .ensures .1))
 
 slice-relend-prefix-read-2 : tie.Need-slice-relend-prefix-read-2
 slice-relend-prefix-read-2 c = search needs
 
 slice-aggregate-read-2 : tie.Need-slice-aggregate-read-2
-slice-aggregate-read-2 c = sym (length-take-le _ _ (c .before .before .before .before .before .lent2 .ensures))
+slice-aggregate-read-2 c = sym (length-take-le _ _ (c .before .before .before .before .before .lent2 .ensures .1))
 
 slice-relend-prefix-read-3 : tie.Need-slice-relend-prefix-read-3
 slice-relend-prefix-read-3 c = search needs
 
 slice-aggregate-read-3 : tie.Need-slice-aggregate-read-3
-slice-aggregate-read-3 c = sym (length-take-le _ _ (c .before .before .before .before .before .lent3 .ensures))
+slice-aggregate-read-3 c = sym (length-take-le _ _ (c .before .before .before .before .before .lent3 .ensures .1))
 
 slice-relend-prefix-read-4 : tie.Need-slice-relend-prefix-read-4
 slice-relend-prefix-read-4 c = search needs
 
 slice-aggregate-read-4 : tie.Need-slice-aggregate-read-4
-slice-aggregate-read-4 c = sym (length-take-le _ _ (c .before .before .before .before .before .lent4 .ensures))
+slice-aggregate-read-4 c = sym (length-take-le _ _ (c .before .before .before .before .before .lent4 .ensures .1))
 
 slice-relend-prefix-read-5 : tie.Need-slice-relend-prefix-read-5
 slice-relend-prefix-read-5 c = search needs
 
 slice-aggregate-read-5 : tie.Need-slice-aggregate-read-5
-slice-aggregate-read-5 c = sym (length-take-le _ _ (c .before .before .before .before .before .lent5 .ensures))
+slice-aggregate-read-5 c = sym (length-take-le _ _ (c .before .before .before .before .before .lent5 .ensures .1))
 
 read-requires : tie.Need-read-requires
 read-requires c κs = search needs

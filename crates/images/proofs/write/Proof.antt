@@ -24,19 +24,19 @@ returns : tie.Need-returns
 returns c = search needs
 
 slice-aggregate-write : tie.Need-slice-aggregate-write
-slice-aggregate-write c = sym (length-take-le _ _ (c .before .before .before .before .before .before .lent .ensures))
+slice-aggregate-write c = sym (length-take-le _ _ (c .before .before .before .before .before .before .lent .ensures .1))
 
 slice-aggregate-write-2 : tie.Need-slice-aggregate-write-2
-slice-aggregate-write-2 c = sym (length-take-le _ _ (c .before .before .before .before .before .before .lent2 .ensures))
+slice-aggregate-write-2 c = sym (length-take-le _ _ (c .before .before .before .before .before .before .lent2 .ensures .1))
 
 slice-aggregate-write-3 : tie.Need-slice-aggregate-write-3
-slice-aggregate-write-3 c = sym (length-take-le _ _ (c .before .before .before .before .before .before .lent3 .ensures))
+slice-aggregate-write-3 c = sym (length-take-le _ _ (c .before .before .before .before .before .before .lent3 .ensures .1))
 
 slice-aggregate-write-4 : tie.Need-slice-aggregate-write-4
-slice-aggregate-write-4 c = sym (length-take-le _ _ (c .before .before .before .before .before .before .lent4 .ensures))
+slice-aggregate-write-4 c = sym (length-take-le _ _ (c .before .before .before .before .before .before .lent4 .ensures .1))
 
 slice-aggregate-write-5 : tie.Need-slice-aggregate-write-5
-slice-aggregate-write-5 c = sym (length-take-le _ _ (c .before .before .before .before .before .before .lent5 .ensures))
+slice-aggregate-write-5 c = sym (length-take-le _ _ (c .before .before .before .before .before .before .lent5 .ensures .1))
 
 slice-relend-prefix-write : tie.Need-slice-relend-prefix-write
 slice-relend-prefix-write c = search needs

@@ -14,8 +14,8 @@ abbrev μ-loop : tie.MeasureT-loop
 loop-holds : tie.Need-loop-holds Inv-loop μ-loop
 loop-holds c = search needs
 
-line-end-requires : tie.Need-line-end-requires Inv-loop μ-loop
-line-end-requires c κs = search needs
+find-requires : tie.Need-find-requires Inv-loop μ-loop
+find-requires c κs = search needs
 
 play-line-requires : tie.Need-play-line-requires Inv-loop μ-loop
 play-line-requires c κs = search needs
@@ -42,7 +42,7 @@ play-spec =
     Inv-loop
     μ-loop
     loop-holds
-    line-end-requires
+    find-requires
     play-line-requires
     add-at
     loop-less

@@ -36,37 +36,37 @@ lent-requires-8 : tie.Need-lent-requires-8
 lent-requires-8 c κs = search needs
 
 slice-aggregate-run : tie.Need-slice-aggregate-run
-slice-aggregate-run c = sym (length-take-le _ _ (c .before .before .before .before .before .before .before .before .lent .ensures))
+slice-aggregate-run c = sym (length-take-le _ _ (c .before .before .before .before .before .before .before .before .lent .ensures .1))
 
 slice-aggregate-run-2 : tie.Need-slice-aggregate-run-2
-slice-aggregate-run-2 c = sym (length-take-le _ _ (c .before .before .before .before .before .before .before .before .lent2 .ensures))
+slice-aggregate-run-2 c = sym (length-take-le _ _ (c .before .before .before .before .before .before .before .before .lent2 .ensures .1))
 
 slice-aggregate-run-3 : tie.Need-slice-aggregate-run-3
-slice-aggregate-run-3 c = sym (length-take-le _ _ (c .before .before .before .before .before .before .before .before .lent3 .ensures))
+slice-aggregate-run-3 c = sym (length-take-le _ _ (c .before .before .before .before .before .before .before .before .lent3 .ensures .1))
 
 slice-aggregate-run-4 : tie.Need-slice-aggregate-run-4
-slice-aggregate-run-4 c = sym (length-take-le _ _ (c .before .before .before .before .before .before .before .before .lent4 .ensures))
+slice-aggregate-run-4 c = sym (length-take-le _ _ (c .before .before .before .before .before .before .before .before .lent4 .ensures .1))
 
 slice-aggregate-run-5 : tie.Need-slice-aggregate-run-5
-slice-aggregate-run-5 c = sym (length-take-le _ _ (c .before .before .before .before .before .before .before .before .lent5 .ensures))
+slice-aggregate-run-5 c = sym (length-take-le _ _ (c .before .before .before .before .before .before .before .before .lent5 .ensures .1))
 
 slice-relend-prefix-run : tie.Need-slice-relend-prefix-run
 slice-relend-prefix-run c = search needs
 
 slice-aggregate-run-6 : tie.Need-slice-aggregate-run-6
-slice-aggregate-run-6 c = sym (length-take-le _ _ (c .before .before .before .before .before .before .before .before .lent6 .ensures))
+slice-aggregate-run-6 c = sym (length-take-le _ _ (c .before .before .before .before .before .before .before .before .lent6 .ensures .1))
 
 slice-relend-prefix-run-2 : tie.Need-slice-relend-prefix-run-2
 slice-relend-prefix-run-2 c = search needs
 
 slice-aggregate-run-7 : tie.Need-slice-aggregate-run-7
-slice-aggregate-run-7 c = sym (length-take-le _ _ (c .before .before .before .before .before .before .before .before .lent7 .ensures))
+slice-aggregate-run-7 c = sym (length-take-le _ _ (c .before .before .before .before .before .before .before .before .lent7 .ensures .1))
 
 slice-relend-prefix-run-3 : tie.Need-slice-relend-prefix-run-3
 slice-relend-prefix-run-3 c = search needs
 
 slice-aggregate-run-8 : tie.Need-slice-aggregate-run-8
-slice-aggregate-run-8 c = sym (length-take-le _ _ (c .before .before .before .before .before .before .before .before .lent8 .ensures))
+slice-aggregate-run-8 c = sym (length-take-le _ _ (c .before .before .before .before .before .before .before .before .lent8 .ensures .1))
 
 run-requires : tie.Need-run-requires
 run-requires c κs = search needs

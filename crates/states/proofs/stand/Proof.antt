@@ -30,28 +30,28 @@ lent-requires-8 : tie.Need-lent-requires-8
 lent-requires-8 c κs = search needs
 
 slice-aggregate-standing : tie.Need-slice-aggregate-standing
-slice-aggregate-standing c = sym (length-take-le _ _ (c .before .before .before .before .before .before .before .before .lent .ensures))
+slice-aggregate-standing c = sym (length-take-le _ _ (c .before .before .before .before .before .before .before .before .lent .ensures .1))
 
 slice-aggregate-standing-2 : tie.Need-slice-aggregate-standing-2
-slice-aggregate-standing-2 c = sym (length-take-le _ _ (c .before .before .before .before .before .before .before .before .lent2 .ensures))
+slice-aggregate-standing-2 c = sym (length-take-le _ _ (c .before .before .before .before .before .before .before .before .lent2 .ensures .1))
 
 slice-aggregate-standing-3 : tie.Need-slice-aggregate-standing-3
-slice-aggregate-standing-3 c = sym (length-take-le _ _ (c .before .before .before .before .before .before .before .before .lent3 .ensures))
+slice-aggregate-standing-3 c = sym (length-take-le _ _ (c .before .before .before .before .before .before .before .before .lent3 .ensures .1))
 
 slice-aggregate-standing-4 : tie.Need-slice-aggregate-standing-4
-slice-aggregate-standing-4 c = sym (length-take-le _ _ (c .before .before .before .before .before .before .before .before .lent4 .ensures))
+slice-aggregate-standing-4 c = sym (length-take-le _ _ (c .before .before .before .before .before .before .before .before .lent4 .ensures .1))
 
 slice-aggregate-standing-5 : tie.Need-slice-aggregate-standing-5
-slice-aggregate-standing-5 c = sym (length-take-le _ _ (c .before .before .before .before .before .before .before .before .lent5 .ensures))
+slice-aggregate-standing-5 c = sym (length-take-le _ _ (c .before .before .before .before .before .before .before .before .lent5 .ensures .1))
 
 slice-aggregate-standing-6 : tie.Need-slice-aggregate-standing-6
-slice-aggregate-standing-6 c = sym (length-take-le _ _ (c .before .before .before .before .before .before .before .before .lent6 .ensures))
+slice-aggregate-standing-6 c = sym (length-take-le _ _ (c .before .before .before .before .before .before .before .before .lent6 .ensures .1))
 
 slice-aggregate-standing-7 : tie.Need-slice-aggregate-standing-7
-slice-aggregate-standing-7 c = sym (length-take-le _ _ (c .before .before .before .before .before .before .before .before .lent7 .ensures))
+slice-aggregate-standing-7 c = sym (length-take-le _ _ (c .before .before .before .before .before .before .before .before .lent7 .ensures .1))
 
 slice-aggregate-standing-8 : tie.Need-slice-aggregate-standing-8
-slice-aggregate-standing-8 c = sym (length-take-le _ _ (c .before .before .before .before .before .before .before .before .lent8 .ensures))
+slice-aggregate-standing-8 c = sym (length-take-le _ _ (c .before .before .before .before .before .before .before .before .lent8 .ensures .1))
 
 standing-requires : tie.Need-standing-requires
 standing-requires c κs = search needs

@@ -36,37 +36,37 @@ count-at-requires-2 : tie.Need-count-at-requires-2
 count-at-requires-2 c κs = search needs
 
 slice-aggregate-start : tie.Need-slice-aggregate-start
-slice-aggregate-start c = sym (length-take-le _ _ (c .before .before .before .before .before .before .before .before .before .before .lent .ensures))
+slice-aggregate-start c = sym (length-take-le _ _ (c .before .before .before .before .before .before .before .before .before .before .lent .ensures .1))
 
 slice-aggregate-start-2 : tie.Need-slice-aggregate-start-2
-slice-aggregate-start-2 c = sym (length-take-le _ _ (c .before .before .before .before .before .before .before .before .before .before .lent2 .ensures))
+slice-aggregate-start-2 c = sym (length-take-le _ _ (c .before .before .before .before .before .before .before .before .before .before .lent2 .ensures .1))
 
 slice-aggregate-start-3 : tie.Need-slice-aggregate-start-3
-slice-aggregate-start-3 c = sym (length-take-le _ _ (c .before .before .before .before .before .before .before .before .before .before .lent3 .ensures))
+slice-aggregate-start-3 c = sym (length-take-le _ _ (c .before .before .before .before .before .before .before .before .before .before .lent3 .ensures .1))
 
 slice-aggregate-start-4 : tie.Need-slice-aggregate-start-4
-slice-aggregate-start-4 c = sym (length-take-le _ _ (c .before .before .before .before .before .before .before .before .before .before .lent4 .ensures))
+slice-aggregate-start-4 c = sym (length-take-le _ _ (c .before .before .before .before .before .before .before .before .before .before .lent4 .ensures .1))
 
 slice-aggregate-start-5 : tie.Need-slice-aggregate-start-5
-slice-aggregate-start-5 c = sym (length-take-le _ _ (c .before .before .before .before .before .before .before .before .before .before .lent5 .ensures))
+slice-aggregate-start-5 c = sym (length-take-le _ _ (c .before .before .before .before .before .before .before .before .before .before .lent5 .ensures .1))
 
 slice-relend-prefix-start : tie.Need-slice-relend-prefix-start
 slice-relend-prefix-start c = search needs
 
 slice-aggregate-start-6 : tie.Need-slice-aggregate-start-6
-slice-aggregate-start-6 c = sym (length-take-le _ _ (c .before .before .before .before .before .before .before .before .before .before .lent6 .ensures))
+slice-aggregate-start-6 c = sym (length-take-le _ _ (c .before .before .before .before .before .before .before .before .before .before .lent6 .ensures .1))
 
 slice-relend-prefix-start-2 : tie.Need-slice-relend-prefix-start-2
 slice-relend-prefix-start-2 c = search needs
 
 slice-aggregate-start-7 : tie.Need-slice-aggregate-start-7
-slice-aggregate-start-7 c = sym (length-take-le _ _ (c .before .before .before .before .before .before .before .before .before .before .lent7 .ensures))
+slice-aggregate-start-7 c = sym (length-take-le _ _ (c .before .before .before .before .before .before .before .before .before .before .lent7 .ensures .1))
 
 slice-relend-prefix-start-3 : tie.Need-slice-relend-prefix-start-3
 slice-relend-prefix-start-3 c = search needs
 
 slice-aggregate-start-8 : tie.Need-slice-aggregate-start-8
-slice-aggregate-start-8 c = sym (length-take-le _ _ (c .before .before .before .before .before .before .before .before .before .before .lent8 .ensures))
+slice-aggregate-start-8 c = sym (length-take-le _ _ (c .before .before .before .before .before .before .before .before .before .before .lent8 .ensures .1))
 
 slice-aggregate-start-9 : tie.Need-slice-aggregate-start-9
 slice-aggregate-start-9 c = sym (length-take-le _ _ (c .before .before .before .before .before .before .before .before .before .before .count-at .ensures))

@@ -1,0 +1,34 @@
+-- `lists::lent` meets its contract: where there are fewer cells than are withheld, none is lent. Assumes nothing.
+use borrow.Author.Needs.{needs}
+use native.Mathlib.Omega.{arith}
+use mathlib.Core.Path.{_≡_}
+use mathlib.Core.List.{List}
+use Prim.Native.Nat.{ℕ, _+_, _-_, _%_, _<_}
+use lib.ListN.{getD}
+use Rattle.lists.specs.Lines.{digitOf}
+use Rattle.lists.proofs.lent.Statement.{statement}
+use Rattle.lists.proofs.lent.Tie as tie
+
+first : (i : ℕ) → 0 + i ≡ i
+first i = omega arith
+
+none : (l : List ℕ) (i n d : ℕ) → d ≡ digitOf (getD l (0 + i) 0) → n < 2 - d % 3 → 0 ≡ n - (2 - digitOf (getD l i 0) % 3)
+none l i n d e h = let f : d ≡ digitOf (getD l i 0) = rw (first i) at e in omega arith
+
+some : (l : List ℕ) (i n d : ℕ) → d ≡ digitOf (getD l (0 + i) 0) → n - (2 - d % 3) ≡ n - (2 - digitOf (getD l i 0) % 3)
+some l i n d e = rw (e, first i)
+
+digit-at-requires : tie.Need-digit-at-requires
+digit-at-requires c κs = search needs
+
+sub-fewer : tie.Need-sub-fewer
+sub-fewer c = search needs
+
+returns : tie.Need-returns
+returns c = let a = c .before .before .before .args in (none (a .line .now) (a .i) _ _ (c .before .digit-at .ensures) (c .if1 .taken), omega arith)
+
+returns-2 : tie.Need-returns-2
+returns-2 c = let a = c .before .before .before .args in (some (a .line .now) (a .i) _ _ (c .before .digit-at .ensures), omega arith)
+
+pub lent-spec : {M : Type 1} → statement M
+lent-spec = tie.close (tie.spec digit-at-requires sub-fewer returns returns-2)

@@ -1,0 +1,54 @@
+-- `lists::number_at` meets its contract: after i turns the number is what i digits say. Assumes nothing.
+use borrow.Author.Needs.{needs}
+use native.Mathlib.Omega.{arith}
+use mathlib.Core.Path.{_≡_}
+use Prim.Native.Nat.{_-_, _≤_}
+use Rattle.lists.specs.Lines.{numberAt}
+use Rattle.lists.proofs.Loops.{none, more, whole}
+use Rattle.lists.proofs.number_at.Statement.{statement}
+use Rattle.lists.proofs.number_at.Tie as tie
+
+abbrev Inv-loop : tie.InvT-loop
+Inv-loop line at n v₀ i₀ v i = (i ≤ n) × (v ≡ numberAt i line at)
+
+abbrev μ-loop : tie.MeasureT-loop
+μ-loop line at n v₀ i₀ v i = n - i
+
+loop-holds : tie.Need-loop-holds Inv-loop μ-loop
+loop-holds c = (omega arith, none _ _)
+
+digit-at-requires : tie.Need-digit-at-requires Inv-loop μ-loop
+digit-at-requires c κs = search needs
+
+mul-v : tie.Need-mul-v Inv-loop μ-loop
+mul-v c = search needs
+
+add-v : tie.Need-add-v Inv-loop μ-loop
+add-v c = search needs
+
+add-i : tie.Need-add-i Inv-loop μ-loop
+add-i c = search needs
+
+loop-less : tie.Need-loop-less Inv-loop μ-loop
+loop-less c = search needs
+
+loop-again : tie.Need-loop-again Inv-loop μ-loop
+loop-again c = (omega arith, more _ _ _ _ _ (c .before .before .loop .inv .1) (c .digit-at .ensures))
+
+returns : tie.Need-returns Inv-loop μ-loop
+returns c = whole _ _ _ _ _ (c .before .loop .inv .0) (c .loop-test .left) (c .before .loop .inv .1)
+
+pub number-at-spec : {M : Type 1} → statement M
+number-at-spec =
+    tie.close
+    (tie.spec
+    Inv-loop
+    μ-loop
+    loop-holds
+    digit-at-requires
+    mul-v
+    add-v
+    add-i
+    loop-less
+    loop-again
+    returns)

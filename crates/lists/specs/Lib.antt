@@ -1,0 +1,2 @@
+-- What a line of a list says.
+pub mod Lines
