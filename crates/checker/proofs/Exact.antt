@@ -26,15 +26,15 @@ data Found (P Q : ℕ → Type 0) (n : ℕ) : Type 0 where
   all : ((j : ℕ) → j < n → P j) → Found P Q n
   one : (b : ℕ) → b < n → ((j : ℕ) → j < b → P j) → Q b → Found P Q n
 
-module _ (P Q : ℕ → Type 0) (decide : (j : ℕ) → P j ⊎ Q j) where
-  more : (n : ℕ) → ((j : ℕ) → j < n → P j) → P n → (j : ℕ) → j < suc n → P j
-  more n f p j h =
-      by-bool (eqb j n) (λ t. let e : j ≡ n = eqb-true j n t in rw e p)
-      (λ t. let d = eqb-false j n t in f j (omega (arith, d)))
+-- one more than those that hold
+pub one-more : (P : ℕ → Type 0) (n : ℕ) → ((j : ℕ) → j < n → P j) → P n → (j : ℕ) → j < n + 1 → P j
+one-more P n f p j h =
+    by-bool (eqb j n) (λ t. let e : j ≡ n = eqb-true j n t in rw e p) (λ t. let d = eqb-false j n t in f j (omega (arith, d)))
 
+module _ (P Q : ℕ → Type 0) (decide : (j : ℕ) → P j ⊎ Q j) where
   next : (n : ℕ) → Found P Q n → Found P Q (suc n)
   next n (one b h f q) = one b (omega arith) f q
-  next n (all f) = ⊎-elim (λ p. all (more n f p)) (λ q. one n (omega arith) f q) (decide n)
+  next n (all f) = ⊎-elim (λ p. all (λ j h. one-more P n f p j (omega arith))) (λ q. one n (omega arith) f q) (decide n)
 
   first : (n : ℕ) → Found P Q n
   first zero = all (λ j h. absurd (omega arith))

@@ -1,1 +1,2 @@
+-- Laws of what the program says.
 pub mod Said
