@@ -12,32 +12,8 @@ Inv-loop s h₀ i₀ h i = (i ≤ length s) × (h < 0x1_0000_0000)
 abbrev μ-loop : tie.MeasureT-loop
 μ-loop s h₀ i₀ h i = length s - i
 
-loop-holds : tie.Need-loop-holds Inv-loop μ-loop
-loop-holds c = search needs
-
-mul-x : tie.Need-mul-x Inv-loop μ-loop
-mul-x c = search needs
-
-shared-slice-read-x : tie.Need-shared-slice-read-x Inv-loop μ-loop
-shared-slice-read-x c = search needs
-
 fold-requires : tie.Need-fold-requires Inv-loop μ-loop
 fold-requires c κs = omega (arith, c .shared-slice-known2 .given (c .before .before .loop .i))
-
-fold-requires-2 : tie.Need-fold-requires-2 Inv-loop μ-loop
-fold-requires-2 c κs = search needs
-
-add-i : tie.Need-add-i Inv-loop μ-loop
-add-i c = search needs
-
-loop-less : tie.Need-loop-less Inv-loop μ-loop
-loop-less c = search needs
-
-loop-again : tie.Need-loop-again Inv-loop μ-loop
-loop-again c = search needs
-
-returns : tie.Need-returns Inv-loop μ-loop
-returns c = search needs
 
 pub digest-words-spec : {M : Type 1} → statement M
 digest-words-spec =
@@ -45,12 +21,6 @@ digest-words-spec =
     (tie.spec
     Inv-loop
     μ-loop
-    loop-holds
-    mul-x
-    shared-slice-read-x
+    (λ c. search needs) (λ c. search needs) (λ c. search needs)
     fold-requires
-    fold-requires-2
-    add-i
-    loop-less
-    loop-again
-    returns)
+    (λ c κs. search needs) (λ c. search needs) (λ c. search needs) (λ c. search needs) (λ c. search needs))
