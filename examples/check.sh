@@ -5,8 +5,8 @@
 #   examples/check.sh --run CMD     also gives each image to CMD on standard input and compares what it writes, as in --run ./deletion
 #   examples/check.sh --update      writes images and results first
 #
-# The values of a result (lines b0) are what the real lua5.3 returns for the rule's source. Its first line (f0: answer, count and place) is the
-# model's, tools/luac/model.py, which must agree with Lua on the values. Nothing in it comes from the program that --run names.
+# The values of a result (lines b0) are what the real lua5.3 returns for the rule's source. Its first line (f0: answer, count and place) is that of
+# tools/oracle, which must agree with Lua on the values. Nothing in it comes from the program that --run names.
 set -euo pipefail
 here=$(dirname "$0")
 tools=$here/../tools
@@ -40,17 +40,17 @@ same() {
 count=0
 for rule in "$here"/*.lua; do
     kept=${rule%.lua}
-    image=$scratch/image result=$scratch/result model=$scratch/model answer=$scratch/answer
+    image=$scratch/image result=$scratch/result foretold=$scratch/foretold answer=$scratch/answer
     "$tools/lua2image/lua2image" "$rule" -o "$image"
-    python3 "$tools/luac/model.py" < "$image" > "$model"
-    { head -n 1 "$model"; values "$rule"; } > "$result"
+    "$tools/oracle/session" < "$image" > "$foretold"
+    { head -n 1 "$foretold"; values "$rule"; } > "$result"
     if [ "$update" ]; then
         cp "$image" "$kept.image"
         cp "$result" "$kept.result"
     fi
     same 'the image' "$kept.image" "$image"
     same 'the result' "$kept.result" "$result"
-    same "the model's answer" "$kept.result" "$model"
+    same "the oracle's answer" "$kept.result" "$foretold"
     if [ "$run" ]; then
         $run < "$kept.image" > "$answer" || true
         same "the answer of $run" "$kept.result" "$answer"

@@ -1,191 +1,37 @@
 #!/usr/bin/env python3
-"""Makes the cases of crates/checks and what must be answered. The answers are written here by hand; a checker of its own,
-written from document 01, has to agree with each.
+"""Makes the cases of crates/checks and what must be answered. The answers are written here by hand; tools/oracle has to agree with each.
 
-    python3 tools/checks/cases.py        writes crates/checks/stdin and crates/checks/stdout
+    python3 tools/checks/cases.py              writes crates/checks/stdin and crates/checks/stdout
+    python3 tools/checks/cases.py --check      writes nothing, and fails where one of the two is stale
 
 Running it again writes the same bytes. The list's form stands at the head of crates/checks/src/main.rt."""
 import os
-import re
+import sys
 
-# ---- a checker of its own: document 01, "What the checker demands"
-
-OPERATIONS = {
-    0: 'Move', 1: 'LoadConstant', 2: 'LoadBool', 3: 'LoadNil', 10: 'Call', 12: 'Return', 14: 'Jump', 15: 'Test', 16: 'TestSet',
-    17: 'Closure', 18: 'NumericForPrep', 19: 'NumericForLoop', 27: 'Eq', 28: 'Less', 29: 'LessEq', 30: 'Not', 31: 'Minus', 32: 'BitNot',
-    33: 'Add', 34: 'Sub', 35: 'Mul', 36: 'Div', 37: 'IDiv', 38: 'Mod', 40: 'BitAnd', 41: 'BitOr', 42: 'BitXor', 43: 'ShiftLeft',
-    44: 'ShiftRight',
-}
-NUMBER = {name: number for number, name in OPERATIONS.items()}
-UNARY = ('Move', 'Not', 'Minus', 'BitNot')
-COMPARE = ('Eq', 'Less', 'LessEq')
-BINARY = ('Add', 'Sub', 'Mul', 'Div', 'IDiv', 'Mod', 'BitAnd', 'BitOr', 'BitXor', 'ShiftLeft', 'ShiftRight')
-YES_NO = {'LoadBool': 'bc', 'Test': 'b', 'TestSet': 'c', 'Eq': 'a', 'Less': 'a', 'LessEq': 'a'}
-UNUSED_C = UNARY + ('LoadNil', 'Return', 'Test', 'Closure')
-REGISTERS = dict({name: 'ab' for name in UNARY + ('TestSet',)}, LoadConstant='a', LoadBool='a', Test='a', Closure='a',
-                 **{name: 'a' for name in BINARY})
-
-
-def broken(registers, constants, count, prototypes, p, five):
-    """The numbers of the rules that an instruction breaks."""
-    operation, flags = five[:2]
-    byte = dict(zip('abc', five[2:]))
-    a, b, c = five[2:]
-    name = OPERATIONS.get(operation)
-    if name is None:
-        return {10}
-    out = set()
-    if name == 'Call' and 255 in (b, c) or name == 'Return' and b == 255 or name == 'Jump' and a != 255:
-        out.add(10)
-    two = name in COMPARE + BINARY
-    if flags & ~(3 if two else 0) or name in UNUSED_C and c or any(byte[x] > 1 for x in YES_NO.get(name, '')):
-        out.add(11)
-    named = [byte[x] for x in REGISTERS.get(name, '')]
-    for flag, at in ((1, b), (2, c)) if two else ():
-        if flags & flag:
-            if at >= constants:
-                out.add(13)
-        else:
-            named.append(at)
-    tops = {'LoadNil': [a + b], 'Return': [a + b], 'Call': [a + 1 + b, a + c], 'NumericForPrep': [a + 3], 'NumericForLoop': [a + 4]}
-    if any(r >= registers for r in named) or any(top > registers for top in tops.get(name, [])):
-        out.add(12)
-    if name == 'LoadConstant' and b * 256 + c >= constants:
-        out.add(13)
-    to = p + 1 + int.from_bytes(bytes([b, c]), 'big', signed=True)
-    places = {'Return': [], 'Jump': [to], 'NumericForPrep': [to], 'NumericForLoop': [p + 1, to]}.get(name, [p + 1])
-    if name in ('Test', 'TestSet') + COMPARE:
-        places = [p + 1, p + 2]
-    if name == 'LoadBool' and c:
-        places = [p + 2]
-    if any(not 0 <= place < count for place in places):
-        out.add(14)
-    if name == 'Closure' and b >= prototypes:
-        out.add(15)
-    return out
-
-
-def check(protos):
-    if not protos:
-        return 15, 0, 0
-    for q, (registers, _, constants, code) in enumerate(protos):
-        if not code:
-            return 14, q, 0
-        for p, five in enumerate(code):
-            numbers = broken(registers, len(constants), len(code), len(protos), p, five)
-            if numbers:
-                return min(numbers), q, p
-    return 0, 0, 0
-
-
-# ---- the storage: five slices, and whether an image reads to them
-
-SIZES = (133, 5041, 8448, 8448, 32768)
-
-
-def parse(image):
-    protos = []
-    for line in image.splitlines():
-        data = bytes.fromhex(line)
-        kind, rest = data[0], data[1:]
-        if kind == 0xA0:
-            protos.append((rest[0], rest[1], [], []))
-        elif kind == 0xB0:
-            protos[-1][2].append(bytes(rest))
-        elif kind == 0xC0:
-            protos[-1][3].append(tuple(rest))
-        else:
-            assert kind == 0xE0 and rest[0] == len(protos)
-    return protos
-
-
-def store(protos):
-    table, code, kinds, words, texts = [len(protos)], [], [], [], []
-    for registers, parameters, constants, instructions in protos:
-        table += [registers, parameters, len(kinds), len(code)]
-        for data in constants:
-            kinds.append(data[0])
-            words.append(len(texts) * 65536 + len(data) - 1 if data[0] == 4 else int.from_bytes(data[1:], 'big'))
-            texts += data[1:] if data[0] == 4 else []
-        for operation, flags, a, b, c in instructions:
-            code.append(c + b * 2**8 + a * 2**16 + (operation * 4 + flags % 4) * 2**24 + flags // 4 * 2**34)
-    table += [0, 0, len(kinds), len(code)]
-    slices = [table, code, kinds, words, texts]
-    return [s + [0] * (size + 1 - len(s)) for s, size in zip(slices, SIZES)]
-
-
-def say(slices):
-    """The image that a storage says, or None."""
-    table, code, kinds, words, texts = slices
-    lines = []
-    try:
-        for q in range(table[0]):
-            registers, parameters, constant, instruction, _, _, constants, instructions = table[1 + 4 * q:9 + 4 * q]
-            if not 1 <= registers <= 255 or parameters > registers:
-                return None
-            if not 0 <= constants - constant <= 256 or not 0 <= instructions - instruction <= 4096:
-                return None
-            lines.append(bytes([0xA0, registers, parameters]))
-            for i in range(constant, constants):
-                if kinds[i] == 4:
-                    start, length = divmod(words[i], 65536)
-                    lines.append(bytes([0xB0, 4] + texts[start:start + length]))
-                else:
-                    lines.append(bytes([0xB0, kinds[i]]) + words[i].to_bytes((0, 1, 8, 8)[kinds[i]], 'big'))
-            for i in range(instruction, instructions):
-                w = code[i]
-                if w >= 2**40:
-                    return None
-                lines.append(bytes([0xC0, w >> 26 & 255, w >> 24 & 3 | w >> 34 << 2, w >> 16 & 255, w >> 8 & 255, w & 255]))
-        lines.append(bytes([0xE0, table[0]]))
-    except (IndexError, ValueError, OverflowError):
-        return None
-    return ''.join(line.hex() + '\n' for line in lines)
-
-
-def read_back(slices):
-    """Prototypes of a storage, or None where no image reads to it."""
-    image = say(slices)
-    if image is None or len(image) > 65536 or slices[0][0] > 32:
-        return None
-    protos = parse(image)
-    for line in image.splitlines():
-        if not re.fullmatch('a0.*|b0(00|010[01]|0[23].{16}|04(..){0,64})|c0.{10}|e0..', line):
-            return None
-    used = [1 + 4 * (len(protos) + 1), sum(len(p[3]) for p in protos), sum(len(p[2]) for p in protos)]
-    used += [used[2], sum(len(d) - 1 for p in protos for d in p[2] if d[0] == 4)]
-    return protos if all(s[:n] == t[:n] for s, t, n in zip(slices, store(protos), used)) else None
-
-
-def answer(slices, lengths):
-    if any(n < size for n, size in zip(lengths, SIZES)):
-        return 5, 0, 0
-    protos = read_back(slices)
-    return (6, 0, 0) if protos is None else check(protos)
-
+sys.dont_write_bytecode = True
+sys.path.insert(1, os.path.join(os.path.dirname(os.path.realpath(__file__)), '..'))
+from oracle.image import STORAGE, Prototype, printed
+from oracle.kept import checking, keep
+from oracle.machine import Machine
+from oracle.rules import BINARY, COMPARISONS, OPERATIONS, UNARY, instruction
 
 # ---- the list
 
 LIST, ANSWERS, NAMES = [], [], set()
+SLICES = dict(zip('tckwx', STORAGE))
 
 
 def case(name, wants, protos, changes=(), lend='11111'):
     """protos: (registers, constants, instructions, parameters = 0). wants: number, prototype, instruction, by hand."""
     assert name not in NAMES, name
     NAMES.add(name)
-    lines = []
-    for registers, constants, code, *parameters in protos:
-        lines.append(bytes([0xA0, registers, *(parameters or [0])]))
-        lines += [bytes([0xB0]) + constant for constant in constants]
-        lines += [bytes([0xC0, *five]) for five in code]
-    lines.append(bytes([0xE0, len(protos)]))
-    image = ''.join(line.hex() + '\n' for line in lines)
-    assert len(image) <= 65536, name
-    slices = store(parse(image))
-    for kind, cell, value in changes:
-        slices['tckwx'.index(kind)][cell] = value
-    found = answer(slices, [size - 1 + int(digit) for size, digit in zip(SIZES, lend)])
-    assert found == wants, (name, found, wants)
+    image = printed([Prototype(registers, *(parameters or [0]), constants, code) for registers, constants, code, *parameters in protos])
+    m = Machine(beyond=1)
+    assert m.read(image) == (0, len(protos)), name
+    for letter, cell, value in changes:
+        getattr(m, SLICES[letter])[cell] = value
+    m.lend(lend)
+    assert m.check() == wants, (name, m.check(), wants)
     LIST.append('# ' + name + '\n' + image + ''.join('=%s%05d:%016x\n' % change for change in changes) + '.' + lend + '\n')
     ANSWERS.append('# %s\n%d %d %d \n' % (name, *wants))
 
@@ -197,7 +43,7 @@ RETURN = (12, 0, 0, 0, 0)
 def single(what, wants, name, flags, a, b, c, p=0, n=2, registers=4, constants=3):
     """One instruction at place p of n in a lone prototype, all others Return of nothing."""
     code = [RETURN] * n
-    code[p] = (NUMBER[name], flags, a, b, c)
+    code[p] = instruction(name, a, b, c, flags)
     case('%s: %s' % (name, what), (wants, 0, p if wants else 0), [(registers, [NIL] * constants, code)])
 
 
@@ -386,7 +232,7 @@ def sources(name, a, n):
 
 
 def binaries():
-    for name in COMPARE:
+    for name in COMPARISONS:
         sources(name, 0, 3)
         single('skip_if 1', 0, name, 0, 1, 0, 0, n=3)
         single('skip_if 2', 11, name, 0, 2, 0, 0, n=3)
@@ -398,9 +244,8 @@ def binaries():
 
 
 def closures():
-    code = [(NUMBER['Closure'], 0, 3, 1, 0), RETURN]
     other = (1, [], [RETURN])
-    case('Closure: the last prototype and register', (0, 0, 0), [(4, [], code), other])
+    case('Closure: the last prototype and register', (0, 0, 0), [(4, [], [(17, 0, 3, 1, 0), RETURN]), other])
     case('Closure: itself', (0, 0, 0), [(4, [], [(17, 0, 0, 0, 0), RETURN])])
     case('Closure: one past the last', (15, 0, 0), [(4, [], [(17, 0, 0, 2, 0), RETURN]), other])
     case('Closure: 31 of 32', (0, 0, 0), [(4, [], [(17, 0, 0, 31, 0), RETURN])] + [other] * 31)
@@ -499,13 +344,11 @@ def storages():
 
 
 def main():
+    check = checking(__doc__)
     for group in (searches, unary, loads, calls, jumps, tests, binaries, closures, not_carried, storages):
         group()
-    here = os.path.join(os.path.dirname(os.path.abspath(__file__)), '..', '..', 'crates', 'checks')
-    for name, parts in (('stdin', LIST), ('stdout', ANSWERS)):
-        with open(os.path.join(here, name), 'w', encoding='ascii', newline='\n') as out:
-            out.write(''.join(parts))
-    print('%d cases, %d bytes' % (len(ANSWERS), sum(map(len, LIST))))
+    keep('checks', ''.join(LIST), ''.join(ANSWERS), check)
+    print('%d cases' % len(ANSWERS))
 
 
 main()

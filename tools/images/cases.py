@@ -1,151 +1,59 @@
 #!/usr/bin/env python3
-"""Makes the cases of crates/images and what must be answered, by a reader of the image format that was written from
-document 01 and shares nothing with the proved one.
+"""Makes the cases of crates/images and what must be answered, by tools/oracle, which shares nothing with the proved reader.
 
-    python3 tools/images/cases.py        writes crates/images/stdin and crates/images/stdout
+    python3 tools/images/cases.py              writes crates/images/stdin and crates/images/stdout
+    python3 tools/images/cases.py --check      writes nothing, and fails where one of the two is stale
 
 Running it again writes the same bytes. The list's form stands at the head of crates/images/src/main.rt."""
 import os
 import random
-import re
+import sys
 
-LONGEST = 65536
+sys.dont_write_bytecode = True
+sys.path.insert(1, os.path.join(os.path.dirname(os.path.realpath(__file__)), '..'))
+from oracle.image import STORAGE, stored
+from oracle.kept import checking, keep
+from oracle.machine import OF_BYTES, Machine
+
 ROOM = 65600  # the output that is lent
-SIZES = (133, 5041, 8448, 8448, 32768)  # table, code, kinds, words, texts
-CELL = (0x5A5A5A5A5A5A5A5A, 0x5A5A5A5A5A5A5A5A, 0x5A, 0x5A5A5A5A5A5A5A5A, 0x5A)  # what lies in a cell at first
-WIDE = (True, True, False, True, False)
+FILL = 0x5A  # what lies in every byte at first
 
 
-# ---- a reader of its own
+# ---- answers
 
-class Refused(Exception):
-    pass
-
-
-def constant(data):
-    """Kind and value of a constant's bytes after b0."""
-    if not data:
-        raise Refused(2)
-    tag, payload = data[0], data[1:]
-    if tag == 0 and payload == b'':
-        return 0, 0
-    if tag == 1 and payload in (b'\0', b'\1'):
-        return 1, payload[0]
-    if tag in (2, 3) and len(payload) == 8:
-        return tag, int.from_bytes(payload, 'big')
-    if tag == 4 and len(payload) <= 64:
-        return 4, payload
-    raise Refused(2)
+FACTOR, MODULUS = 65599, 0xFFFFFFFB
 
 
-def take(protos, line):
-    """One complete line; True where it is e0."""
-    if not re.fullmatch(rb'(?:[0-9a-f][0-9a-f])+', line):
-        raise Refused(1)
-    data = bytes.fromhex(line.decode())
-    kind, rest = data[0], data[1:]
-    if kind == 0xA0:
-        if len(rest) != 2 or rest[0] == 0 or rest[1] > rest[0]:
-            raise Refused(2)
-        if len(protos) == 32:
-            raise Refused(3)
-        protos.append((rest[0], rest[1], [], []))
-    elif kind == 0xB0:
-        value = constant(rest)
-        if not protos or protos[-1][3]:
-            raise Refused(2)
-        if len(protos[-1][2]) == 256:
-            raise Refused(3)
-        protos[-1][2].append(value)
-    elif kind == 0xC0:
-        if len(rest) != 5 or not protos:
-            raise Refused(2)
-        if len(protos[-1][3]) == 4096:
-            raise Refused(3)
-        protos[-1][3].append(tuple(rest))
-    elif kind == 0xE0:
-        if rest != bytes([len(protos)]):
-            raise Refused(2)
-        return True
-    else:
-        raise Refused(2)
-    return False
-
-
-def read(image, lengths):
-    """(0, prototypes) or (the refusal's number, the line)."""
-    if any(n < size for n, size in zip(lengths, SIZES)):
-        return 5, 0, None
-    if len(image) > LONGEST:
-        return 3, 0, None
-    protos, rest, number = [], image, 0
-    while rest:
-        line, found, rest = rest.partition(b'\n')
-        if not found:
-            return 1, number, None
-        try:
-            ended = take(protos, line)
-        except Refused as why:
-            return why.args[0], number, None
-        number += 1
-        if ended:
-            return (4, number, None) if rest else (0, len(protos), protos)
-    return 4, number, None
-
-
-def packed(operation, flags, a, b, c):
-    return c | b << 8 | a << 16 | operation << 26 | (flags & 3) << 24 | (flags >> 2) << 34
-
-
-def contents(protos):
-    """What the five slices hold at their front."""
-    table, code, kinds, words, texts = [len(protos)], [], [], [], b''
-    for registers, parameters, constants, instructions in protos:
-        table += [registers, parameters, len(kinds), len(code)]
-        for kind, value in constants:
-            kinds.append(kind)
-            if kind == 4:
-                words.append(len(texts) * 65536 + len(value))
-                texts += value
-            else:
-                words.append(value)
-        code += [packed(*five) for five in instructions]
-    return table + [0, 0, len(kinds), len(code)], code, kinds, words, list(texts)
-
-
-def digest(cells, wide):
+def digest(front, fill, count):
+    """Of all numbers of `front`, then of `fill` so often that they are `count`: h becomes h * FACTOR + number with each of them."""
     h = 0
-    for cell in cells:
-        for part in ((cell >> 32, cell & 0xFFFFFFFF) if wide else (cell,)):
-            h = (h * 65599 + part) % 0xFFFFFFFB
-    return h
+    for number in front:
+        h = (h * FACTOR + number) % MODULUS
+    # The rest in one step, by the sum of a geometric series: it is nearly all of the slice.
+    power = pow(FACTOR, count - len(front), MODULUS)
+    series = (power - 1) * pow(FACTOR - 1, -1, MODULUS)
+    return (h * power + fill * series) % MODULUS
 
 
-def answered(image, lengths):
-    number, place, protos = read(image, lengths)
-    fronts = contents(protos) if number == 0 else [[]] * 5
-    out = [number, place]
-    for front, size, cell, wide in zip(fronts, SIZES, CELL, WIDE):
-        assert len(front) <= size
-        out.append(digest(front + [cell] * (size + 1 - len(front)), wide))
-    for n in (max(len(image) - 1, 0), len(image)):
-        out += rewritten(image, number, n)
-    return ' '.join(str(x) for x in out) + ' \n'
+def digest_of_slice(name, front):
+    """Of a slice that has `front` and a cell more than its size; a cell of 64 bits is two numbers."""
+    cells = STORAGE[name] + 1
+    if name in OF_BYTES:
+        return digest(front, FILL, cells)
+    return digest([half for cell in front for half in divmod(cell, 2**32)], int.from_bytes([FILL] * 4, 'big'), 2 * cells)
 
 
-def rewritten(image, number, n):
-    """What is left in an output of n bytes: 5 for short storage; 6 where nothing was read, since no image fills the cells
-    as they lay there first; 5 where the image does not fit; else the image."""
-    text, answer = b'', [0, len(image)]
-    if number == 5:
-        answer = [5, 0]
-    elif number:
-        answer = [6, 0]
-    elif n < len(image):
-        answer = [5, 0]
-    else:
-        text = image
-    return answer + [digest(list(text) + [0x5A] * (ROOM - len(text)), False)]
+def answered(image, storage):
+    """The reader's number and place, what it leaves in each slice, and what the writer then answers and leaves."""
+    m = Machine(storage=FILL, beyond=1)
+    m.lend(storage)
+    number, place = m.read(image)
+    fronts = stored(m.protos()) if number == 0 else {}
+    out = [number, place, *[digest_of_slice(name, fronts.get(name, [])) for name in STORAGE]]
+    for room in (max(len(image) - 1, 0), len(image)):
+        number, text = m.write(room)
+        out += [number, len(text), digest(text.encode(), FILL, ROOM)]
+    return out
 
 
 # ---- the cases
@@ -159,10 +67,9 @@ def case(name, *pieces, storage='11111', wants=None, length=None):
     pieces = [p if isinstance(p, tuple) else (1, p) for p in pieces if p]
     image = b''.join(n * text.encode('latin-1') for n, text in pieces)
     assert length in (None, len(image)), (name, len(image))
-    lengths = [size - 1 + int(digit) for size, digit in zip(SIZES, storage)]
-    if wants is not None:
-        assert read(image, lengths)[:2] == wants, (name, read(image, lengths)[:2], wants)
-    CASES.append((name, pieces, storage, answered(image, lengths)))
+    answer = answered(image, storage)
+    assert wants in (None, tuple(answer[:2])), (name, answer[:2], wants)
+    CASES.append((name, pieces, storage, answer))
 
 
 A0, C0, NIL = 'a00100\n', 'c00000000000\n', 'b000\n'
@@ -366,26 +273,18 @@ def drawn():
 
 
 def main():
-    accepted()
-    empty_and_end()
-    hexadecimal()
-    fields()
-    order()
-    limits()
-    image_length()
-    sizes()
-    drawn()
+    check = checking(__doc__)
+    for group in (accepted, empty_and_end, hexadecimal, fields, order, limits, image_length, sizes, drawn):
+        group()
     given, wanted = [], []
     for name, pieces, storage, answer in CASES:
         given.append('# %s\n' % name)
         for count, text in pieces:
             given.append('%05d %s\n' % (count, ''.join(SAID.get(c, c) for c in text)))
         given.append('.%s\n' % storage)
-        wanted.append('# %s\n%s' % (name, answer))
-    folder = os.path.join(os.path.dirname(os.path.abspath(__file__)), '..', '..', 'crates', 'images')
-    for name, rows in (('stdin', given), ('stdout', wanted)):
-        with open(os.path.join(folder, name), 'w', encoding='ascii', newline='') as out:
-            out.write(''.join(rows))
+        wanted.append('# %s\n%s \n' % (name, ' '.join(map(str, answer))))
+    keep('images', ''.join(given), ''.join(wanted), check)
+    print('%d cases' % len(CASES))
 
 
 main()

@@ -2,10 +2,9 @@
 
     listed(prototypes, functions)     the text; functions: those of the Lua source, in the image's order, or None where there is no source
 
-A prototype is (registers, parameters, constants, instructions); a constant is its bytes from the tag on, an instruction its five bytes."""
-import struct
-
-from model import BINARY, COMPARISONS, OPERATIONS, broken_rules, target
+The prototypes are those of tools/oracle: a constant is its bytes from the tag on, an instruction its five bytes."""
+from oracle.rules import BINARY, COMPARISONS, OPERATIONS, broken, index, target
+from oracle.values import BOOLEAN, INTEGER, NIL, NUMBER, double, signed
 
 SIGNS = {
     'Eq': '==', 'Less': '<', 'LessEq': '<=', 'Not': 'not ', 'Minus': '-', 'BitNot': '~', 'Add': '+', 'Sub': '-', 'Mul': '*', 'Div': '/',
@@ -15,16 +14,16 @@ SIGNS = {
 
 def value(constant):
     """A constant as Lua writes it."""
-    tag, payload = constant[0], constant[1:]
-    if tag == 0:
+    tag, word = constant[0], int.from_bytes(constant[1:], 'big')
+    if tag == NIL:
         return 'nil'
-    if tag == 1:
-        return 'true' if payload[0] else 'false'
-    if tag == 2:
-        return str(int.from_bytes(payload, 'big', signed=True))
-    if tag == 3:
-        return repr(struct.unpack('>d', payload)[0])
-    return '"%s"' % ''.join(chr(byte) if 32 <= byte < 127 and byte not in b'"\\' else '\\%03d' % byte for byte in payload)
+    if tag == BOOLEAN:
+        return 'true' if word else 'false'
+    if tag == INTEGER:
+        return str(signed(word))
+    if tag == NUMBER:
+        return repr(double(word))
+    return '"%s"' % ''.join(chr(byte) if 32 <= byte < 127 and byte not in b'"\\' else '\\%03d' % byte for byte in constant[1:])
 
 
 def registers(first, count):
@@ -55,7 +54,7 @@ def in_words(five, q, p, constants):
     if name == 'Move':
         return 'r%d = r%d' % (a, b)
     if name == 'LoadConstant':
-        return 'r%d = %s' % (a, value(constants[b * 256 + c]))
+        return 'r%d = %s' % (a, value(constants[index(b, c)]))
     if name == 'LoadBool':
         return 'r%d = %s' % (a, 'true' if b else 'false') + (', ' + skip if c else '')
     if name == 'LoadNil':
@@ -83,9 +82,9 @@ def listed(prototypes, functions=None):
         begins = '' if functions is None else ', the main program' if q == 0 else ', the function at line %d' % functions[q].line
         lines.append('prototype %d%s: registers %d, parameters %d' % (q, begins, size, parameters))
         for p, five in enumerate(code):
-            broken = broken_rules(five, p, len(code), size, len(constants), len(prototypes))
-            name = OPERATIONS.get(five[0], 'operation %d' % five[0])
-            words = 'bytes %s, refused with %d' % (bytes(five).hex(' '), min(broken)) if broken else in_words(five, q, p, constants)
+            numbers = broken(prototypes, q, p)
+            name = OPERATIONS.get(five.operation, 'operation %d' % five.operation)
+            words = 'bytes %s, refused with %d' % (bytes(five).hex(' '), min(numbers)) if numbers else in_words(five, q, p, constants)
             line = '' if functions is None else 'line %-5d' % functions[q].lines[p]
             lines.append('%-8s%s %-15s %s' % ('%d:%d' % (q, p), line, name, words))
     return ''.join(line + '\n' for line in lines)

@@ -6,8 +6,8 @@
 import re
 
 from luac_image import BINARY, COMPARISONS, operation
-
-MOST_FUNCTIONS, MOST_CONSTANTS, MOST_INSTRUCTIONS, MOST_STRING_BYTES, MOST_IMAGE_BYTES = 32, 256, 4096, 64, 65536
+from oracle.image import MOST_BYTES, MOST_CONSTANTS, MOST_INSTRUCTIONS, MOST_PROTOTYPES, MOST_STRING_BYTES
+from oracle.values import STRING
 
 NO_GLOBALS = "%s is a global: rules can't use globals; "
 NO_TABLES = "rules can't use tables; keep each value in a local of its own"
@@ -56,7 +56,7 @@ def field(function, key):
     """A table's field as it is written after the table: .name where the key is a constant name, else [...]."""
     constant = function.constants[key - 256] if key >= 256 else b''
     name = text(constant[1:])
-    return '.' + name if constant[:1] == b'\4' and name.isidentifier() else '[...]'
+    return '.' + name if constant[:1] == bytes([STRING]) and name.isidentifier() else '[...]'
 
 
 def reads_on(function, p):
@@ -136,8 +136,8 @@ def first_use(function, constant):
 
 
 def limits_passed(functions):
-    if len(functions) > MOST_FUNCTIONS:
-        yield line_of(functions[MOST_FUNCTIONS]), (
+    if len(functions) > MOST_PROTOTYPES:
+        yield line_of(functions[MOST_PROTOTYPES]), (
             '%d functions, the main program among them: an image has at most 32; put some of them together' % len(functions))
     for function in functions:
         if len(function.constants) > MOST_CONSTANTS:
@@ -147,7 +147,7 @@ def limits_passed(functions):
             yield function.lines[MOST_INSTRUCTIONS], (
                 '%d instructions in one function: at most 4,096 are carried; split it into several functions' % len(function.code))
         for i, constant in enumerate(function.constants):
-            if constant[0] == 4 and len(constant) - 1 > MOST_STRING_BYTES:
+            if constant[0] == STRING and len(constant) - 1 > MOST_STRING_BYTES:
                 yield first_use(function, i), 'a string of %d bytes: at most 64 are carried; use a shorter one' % (len(constant) - 1)
 
 
@@ -160,13 +160,13 @@ def objections(functions):
 
 
 def too_long(functions, image):
-    if len(image) <= MOST_IMAGE_BYTES:
+    if len(image) <= MOST_BYTES:
         return []
     lines = []
     for function in functions:
         lines += [line_of(function)] * (1 + len(function.constants)) + function.lines
     lines.append(lines[-1])
-    passed = image.count('\n', 0, MOST_IMAGE_BYTES)
+    passed = image.count('\n', 0, MOST_BYTES)
     return [(lines[passed], 'the image passes 65,536 bytes here and has %d: more are not read; make the rule shorter' % len(image))]
 
 

@@ -2,11 +2,11 @@
 """Makes the programs of crates/runs, and what real Lua 5.3 answers to each.
 
     python3 tools/luac/generate.py               writes crates/runs/stdin and crates/runs/stdout
-    python3 tools/luac/generate.py --check       writes nothing, and fails where one of the two would change
+    python3 tools/luac/generate.py --check       writes nothing, and fails where one of the two is stale
     python3 tools/luac/generate.py --sources D   writes the Lua sources to folder D, one file each, and nothing else
 
-Each program is compiled by luac5.3 and translated by luac_image.py; the real lua5.3 runs its source. The model (model.py) must give the same for
-each, or the script stops. It uses no clock and no random numbers but its own, and gives the same bytes each time."""
+Each program is compiled by luac5.3 and translated by luac_image.py; the real lua5.3 runs its source. The machine of tools/oracle must give the same
+for each, or the script stops. It uses no clock and no random numbers but its own, and gives the same bytes each time."""
 import math
 import os
 import re
@@ -15,12 +15,14 @@ import sys
 import tempfile
 
 sys.dont_write_bytecode = True
+HERE = os.path.dirname(os.path.realpath(__file__))
+sys.path.insert(1, os.path.join(HERE, '..'))
 import luac_image
-import model
+from oracle.kept import checking, keep
+from oracle.machine import Machine
+from oracle.values import double
 from programs import CASES
 
-HERE = os.path.dirname(os.path.abspath(__file__))
-KEPT = os.path.join(HERE, '..', '..', 'crates', 'runs')
 BUDGET = 1000000
 
 # The number of document 01's table for an error of a Lua operation.
@@ -76,9 +78,9 @@ def expected(program, case, said):
     raise SystemExit('an error that no operation here raises: ' + rest)
 
 
-def modelled(image):
-    """What the model answers, in the same form."""
-    m = model.Machine()
+def foretold(image):
+    """What the oracle answers, in the same form."""
+    m = Machine()
     if m.read(image)[0] or m.start()[0]:
         return 'refused'
     number, _, q, p = m.run(BUDGET)
@@ -88,19 +90,18 @@ def modelled(image):
 
 
 def one_nan(shown):
-    return 'b0037ff8000000000000' if shown.startswith('b003') and math.isnan(model.double(int(shown[4:], 16))) else shown
+    return 'b0037ff8000000000000' if shown.startswith('b003') and math.isnan(double(int(shown[4:], 16))) else shown
 
 
-def main():
-    names = [case.name for case in CASES]
-    assert len(set(names)) == len(names)
-    if sys.argv[1:2] == ['--sources']:
-        folder = sys.argv[2]
-        os.makedirs(folder, exist_ok=True)
-        for i, case in enumerate(CASES):
-            with open(os.path.join(folder, '%d.lua' % (i + 1)), 'w') as file:
-                file.write('-- %s\n' % case.name + case.source)
-        return
+def write_sources(folder):
+    os.makedirs(folder, exist_ok=True)
+    for i, case in enumerate(CASES):
+        with open(os.path.join(folder, '%d.lua' % (i + 1)), 'w') as file:
+            file.write('-- %s\n' % case.name + case.source)
+
+
+def compiled_and_run():
+    """Every program's translation and what Lua says of it, in the order of CASES."""
     with tempfile.TemporaryDirectory() as folder:
         programs = []
         for i, case in enumerate(CASES):
@@ -114,31 +115,30 @@ def main():
         lua = subprocess.run(['lua5.3', os.path.join(HERE, 'run.lua'), folder, str(len(CASES))], stdout=subprocess.PIPE, check=True,
                              universal_newlines=True).stdout.splitlines()
     assert len(lua) == len(CASES)
-    images, answers, finished, raised, wrong = [], [], 0, 0, 0
-    for case, program, said in zip(CASES, programs, lua):
+    return programs, lua
+
+
+def main():
+    names = [case.name for case in CASES]
+    assert len(set(names)) == len(names)
+    if len(sys.argv) == 3 and sys.argv[1] == '--sources':
+        write_sources(sys.argv[2])
+        return
+    check = checking(__doc__)
+    images, answers, finished, wrong = [], [], 0, 0
+    for case, program, said in zip(CASES, *compiled_and_run()):
         wants = expected(program, case, said)
-        has = modelled(program.image)
+        has = foretold(program.image)
         if has != wants:
             wrong += 1
-            print('%s\n%s  Lua:   %s\n  wants: %s\n  model: %s\n' % (case.name, case.source, said, wants, has))
+            print('%s\n%s  Lua:    %s\n  wants:  %s\n  oracle: %s\n' % (case.name, case.source, said, wants, has))
         images.append('# %s\n%s' % (case.name, program.image))
         answers.append('# %s\n%s\n' % (case.name, wants))
         finished += wants.startswith('0')
-        raised += not wants.startswith('0')
     if wrong:
-        raise SystemExit('%d of %d differ from the model' % (wrong, len(CASES)))
-    answers.append('%d programs: %d returned, %d raised an error\n' % (len(CASES), finished, raised))
-    files = {'stdin': ''.join(images), 'stdout': ''.join(answers)}
-    for name, text in files.items():
-        path = os.path.join(KEPT, name)
-        if sys.argv[1:] == ['--check']:
-            with open(path) as file:
-                if file.read() != text:
-                    raise SystemExit(path + ' would change')
-        else:
-            os.makedirs(KEPT, exist_ok=True)
-            with open(path, 'w') as file:
-                file.write(text)
+        raise SystemExit('%d of %d differ from the oracle' % (wrong, len(CASES)))
+    answers.append('%d programs: %d returned, %d raised an error\n' % (len(CASES), finished, len(CASES) - finished))
+    keep('runs', ''.join(images), ''.join(answers), check)
     print(answers[-1], end='')
 
 

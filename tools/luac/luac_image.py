@@ -13,15 +13,23 @@ import subprocess
 import sys
 import tempfile
 
+sys.dont_write_bytecode = True
+sys.path.insert(1, os.path.join(os.path.dirname(os.path.realpath(__file__)), '..'))
+from oracle.image import MOST_BYTES, MOST_CONSTANTS, MOST_INSTRUCTIONS, MOST_PROTOTYPES, MOST_STRING_BYTES, Prototype, printed
+from oracle.rules import instruction
+from oracle.values import BOOLEAN, INTEGER, NIL, NUMBER, STRING
+
 NAMES = ('MOVE LOADK LOADKX LOADBOOL LOADNIL GETUPVAL GETTABUP GETTABLE SETTABUP SETUPVAL SETTABLE NEWTABLE SELF ADD SUB MUL MOD POW DIV IDIV '
          'BAND BOR BXOR SHL SHR UNM BNOT NOT LEN CONCAT JMP EQ LT LE TEST TESTSET CALL TAILCALL RETURN FORLOOP FORPREP TFORCALL TFORLOOP '
          'SETLIST CLOSURE VARARG EXTRAARG').split()
 
-# Lua's name, and the number of document 01's operation.
-UNARY = {'MOVE': 0, 'NOT': 30, 'UNM': 31, 'BNOT': 32}
-BINARY = {'ADD': 33, 'SUB': 34, 'MUL': 35, 'DIV': 36, 'IDIV': 37, 'MOD': 38, 'BAND': 40, 'BOR': 41, 'BXOR': 42, 'SHL': 43, 'SHR': 44}
-COMPARISONS = {'EQ': 27, 'LT': 28, 'LE': 29}
-LOADK, LOADBOOL, LOADNIL, CALL, RETURN, JUMP, TEST, TESTSET, CLOSURE, FORPREP, FORLOOP = 1, 2, 3, 10, 12, 14, 15, 16, 17, 18, 19
+# Lua's name of an operator, and document 01's of its operation.
+UNARY = {'MOVE': 'Move', 'NOT': 'Not', 'UNM': 'Minus', 'BNOT': 'BitNot'}
+BINARY = {
+    'ADD': 'Add', 'SUB': 'Sub', 'MUL': 'Mul', 'DIV': 'Div', 'IDIV': 'IDiv', 'MOD': 'Mod', 'BAND': 'BitAnd', 'BOR': 'BitOr', 'BXOR': 'BitXor',
+    'SHL': 'ShiftLeft', 'SHR': 'ShiftRight',
+}
+COMPARISONS = {'EQ': 'Eq', 'LT': 'Less', 'LE': 'LessEq'}
 
 
 class Refused(Exception):
@@ -69,15 +77,15 @@ class Chunk:
         """The constant's bytes in the image: tag and payload."""
         kind = self.byte()
         if kind == 0:
-            return b'\0'
+            return bytes([NIL])
         if kind == 1:
-            return bytes([1, self.byte()])
+            return bytes([BOOLEAN, self.byte()])
         if kind == 3:
-            return b'\3' + self.take(8)[::-1]
+            return bytes([NUMBER]) + self.take(8)[::-1]
         if kind == 0x13:
-            return b'\2' + self.take(8)[::-1]
+            return bytes([INTEGER]) + self.take(8)[::-1]
         if kind in (4, 0x14):
-            return b'\4' + self.string()
+            return bytes([STRING]) + self.string()
         raise Refused('a constant of type %d' % kind)
 
 
@@ -120,18 +128,17 @@ def compiled(path):
 # ---- the image
 
 class Program:
-    """functions: the chunk's functions in the image's order, each before those within it. prototypes: (registers, parameters, constants,
-    instructions), as in the image."""
+    """functions: the chunk's functions in the image's order, each before those within it. prototypes: what the image has of them."""
 
     def __init__(self, main):
         self.functions = []
         self.number(main)
-        if len(self.functions) > 32:
-            raise Refused('%d functions; an image has at most 32' % len(self.functions))
+        if len(self.functions) > MOST_PROTOTYPES:
+            raise Refused('%d functions; an image has at most %d' % (len(self.functions), MOST_PROTOTYPES))
         self.prototypes = [self.prototype(function) for function in self.functions]
         self.image = printed(self.prototypes)
-        if len(self.image) > 65536:
-            raise Refused('the image has %d bytes; at most 65536 are read' % len(self.image))
+        if len(self.image) > MOST_BYTES:
+            raise Refused('the image has %d bytes; at most %d are read' % (len(self.image), MOST_BYTES))
 
     def number(self, function):
         function.number = len(self.functions)
@@ -143,20 +150,20 @@ class Program:
         if function.number and function.upvalues:
             names = ', '.join(name.decode() if name else '?' for name in function.upvalue_names)
             raise Refused('line %d: a function that uses variables from outside (%s)' % (function.line, names))
-        if len(function.constants) > 256:
-            raise Refused('line %d: %d constants; a function has at most 256' % (function.line, len(function.constants)))
-        if len(function.code) > 4096:
-            raise Refused('line %d: %d instructions; a function has at most 4096' % (function.line, len(function.code)))
+        if len(function.constants) > MOST_CONSTANTS:
+            raise Refused('line %d: %d constants; a function has at most %d' % (function.line, len(function.constants), MOST_CONSTANTS))
+        if len(function.code) > MOST_INSTRUCTIONS:
+            raise Refused('line %d: %d instructions; a function has at most %d' % (function.line, len(function.code), MOST_INSTRUCTIONS))
         for constant in function.constants:
-            if constant[0] == 4 and len(constant) > 65:
-                raise Refused('line %d: a string of %d bytes; at most 64 are carried' % (function.line, len(constant) - 1))
+            if constant[0] == STRING and len(constant) - 1 > MOST_STRING_BYTES:
+                raise Refused('line %d: a string of %d bytes; at most %d are carried' % (function.line, len(constant) - 1, MOST_STRING_BYTES))
         code = []
         for word, line in zip(function.code, function.lines):
             try:
                 code.append(translated(function, word))
             except Refused as refusal:
                 raise Refused('line %d: %s %s' % (line, operation(word), refusal))
-        return function.registers, function.parameters, function.constants, code
+        return Prototype(function.registers, function.parameters, function.constants, code)
 
 
 def offset(word):
@@ -181,54 +188,43 @@ def counted(n, what):
 
 
 def translated(function, word):
-    """Operation, flags, a, b, c."""
     name = operation(word)
     a, b, c = word >> 6 & 255, word >> 23, word >> 14 & 511
     if name in UNARY:
-        return UNARY[name], 0, a, b, 0
+        return instruction(UNARY[name], a, b)
     if name in BINARY or name in COMPARISONS:
         left, b = source(b)
         right, c = source(c)
         flags = left + 2 * right
         if name in BINARY:
-            return BINARY[name], flags, a, b, c
-        return COMPARISONS[name], flags, 1 - a, b, c
+            return instruction(BINARY[name], a, b, c, flags)
+        return instruction(COMPARISONS[name], 1 - a, b, c, flags)
     if name == 'LOADK':
         index = word >> 14
-        return LOADK, 0, a, index >> 8, index & 255
+        return instruction('LoadConstant', a, index >> 8, index & 255)
     if name == 'LOADBOOL':
-        return LOADBOOL, 0, a, int(b != 0), int(c != 0)
+        return instruction('LoadBool', a, int(b != 0), int(c != 0))
     if name == 'LOADNIL':
-        return LOADNIL, 0, a, b + 1, 0
+        return instruction('LoadNil', a, b + 1)
     if name == 'CALL':
-        return CALL, 0, a, counted(b, 'arguments'), counted(c, 'results')
+        return instruction('Call', a, counted(b, 'arguments'), counted(c, 'results'))
     if name == 'RETURN':
-        return RETURN, 0, a, counted(b, 'results'), 0
+        return instruction('Return', a, counted(b, 'results'))
     if name == 'JMP':
         if a:
             raise Refused('that closes variables')
-        return (JUMP, 0, 255, *offset(word))
+        return instruction('Jump', 255, *offset(word))
     if name == 'TEST':
-        return TEST, 0, a, int(c == 0), 0
+        return instruction('Test', a, int(c == 0))
     if name == 'TESTSET':
-        return TESTSET, 0, a, b, int(c == 0)
+        return instruction('TestSet', a, b, int(c == 0))
     if name == 'CLOSURE':
-        return CLOSURE, 0, a, function.functions[word >> 14].number, 0
+        return instruction('Closure', a, function.functions[word >> 14].number)
     if name == 'FORPREP':
-        return (FORPREP, 0, a, *offset(word))
+        return instruction('NumericForPrep', a, *offset(word))
     if name == 'FORLOOP':
-        return (FORLOOP, 0, a, *offset(word))
+        return instruction('NumericForLoop', a, *offset(word))
     raise Refused('is not carried')
-
-
-def printed(prototypes):
-    lines = []
-    for registers, parameters, constants, code in prototypes:
-        lines.append(bytes([0xA0, registers, parameters]))
-        lines += [b'\xb0' + constant for constant in constants]
-        lines += [bytes([0xC0, *five]) for five in code]
-    lines.append(bytes([0xE0, len(prototypes)]))
-    return ''.join(line.hex() + '\n' for line in lines)
 
 
 def translate(path):

@@ -1,38 +1,33 @@
 #!/usr/bin/env python3
-"""Cases of starting and running, and what must be answered and left: crates/states/stdin and stdout.
+"""Cases of starting and running, and what must be answered and left.
 
-Every answer is written by hand beside its case or follows from a rule that is; the machine of tools/luac/model.py, which was written from
-document 01 and shares nothing with the proved one, must agree with it, or the script stops. What is left comes from that machine alone.
-"""
+    python3 tools/states/cases.py              writes crates/states/stdin and crates/states/stdout
+    python3 tools/states/cases.py --check      writes nothing, and fails where one of the two is stale
+
+Every answer is written by hand beside its case or follows from a rule that is; tools/oracle, which was written from document 01 and shares
+nothing with the proved machine, must agree with it, or the script stops. What is left comes from the oracle alone."""
 import os
-import struct
 import sys
 
 sys.dont_write_bytecode = True
-HERE = os.path.dirname(os.path.abspath(__file__))
-sys.path.insert(0, os.path.join(HERE, '..', 'luac'))
-import model  # noqa: E402
+sys.path.insert(1, os.path.join(os.path.dirname(os.path.realpath(__file__)), '..'))
+from oracle.image import Instruction, Prototype, packed, payload, printed
+from oracle.kept import checking, keep
+from oracle.machine import SIZES, Machine, framed
+from oracle.rules import NUMBER_OF
+from oracle.values import double, integer as i, number as f
 
 LIST = []
 ANSWERS = []
 RUNS = [0]
 
-SLICES = dict(t='table', c='code', k='const_kinds', w='const_words', x='texts', f='frames', r='kinds', v='words')
+SLICES = dict(zip('tckwxfrv', SIZES))
 STATE = 'frv'
-FILL = dict(t=0, c=0, k=0, w=0, x=0, f=0x5a5a5a5a5a5a5a5a, r=0x5a, v=0x5a5a5a5a5a5a5a5a)
 ALL = '1' * 8
 MOST = 2**64 - 1
 
 
 # ---- values and constants
-
-def i(n):
-    return 2, n % 2**64
-
-
-def f(x):
-    return 3, int.from_bytes(struct.pack('>d', x), 'big')
-
 
 def bits(word):
     return 3, word
@@ -58,30 +53,25 @@ def const(value):
     if isinstance(value, bytes):
         return b'\4' + value
     kind, word = value
-    return bytes([kind]) + word.to_bytes({0: 0, 1: 1, 2: 8, 3: 8}[kind], 'big')
+    return bytes([kind]) + payload(kind, word)
 
 
 # ---- instructions and prototypes
 
 def op(name, *operands, flags=0):
     """An instruction's five bytes; an index or an offset is one operand."""
-    number = model.NUMBER_OF[name] if isinstance(name, str) else name
+    operation = NUMBER_OF[name] if isinstance(name, str) else name
     operands = list(operands)
     if name == 'Jump':
         operands.insert(0, 255)
     if name in ('Jump', 'LoadConstant', 'NumericForPrep', 'NumericForLoop'):
         wide = operands.pop() % 65536
         operands += [wide // 256, wide % 256]
-    return (number, flags, *operands, *[0] * (3 - len(operands)))
+    return Instruction(operation, flags, *operands, *[0] * (3 - len(operands)))
 
 
 def proto(registers, parameters, constants, code):
-    return registers, parameters, [const(value) for value in constants], code
-
-
-def encoded(five):
-    operation, flags, a, b, c = five
-    return flags // 4 << 34 | operation << 26 | flags % 4 << 24 | a << 16 | b << 8 | c
+    return Prototype(registers, parameters, [const(value) for value in constants], code)
 
 
 RETURN = op('Return', 0, 0)
@@ -91,10 +81,8 @@ RETURN = op('Return', 0, 0)
 
 class Case:
     def __init__(self, name, protos):
-        self.machine = model.Machine()
-        for letter, slice in SLICES.items():
-            setattr(self.machine, slice, [FILL[letter]] * (model.SIZES[slice] + 1))
-        image = model.printed(protos)
+        self.machine = Machine(state=0x5a, beyond=1)
+        image = printed(protos)
         assert '#' not in name
         LIST.append('# %s\n%s<\n' % (name, image))
         ANSWERS.append('# %s\n' % name)
@@ -103,15 +91,10 @@ class Case:
 
     def with_lent(self, lend, act):
         """Acts on the slices as they are lent: one cell short (0), as published (1), or one longer (2)."""
-        m = self.machine
-        whole = {slice: getattr(m, slice) for slice in SLICES.values()}
-        for digit, (slice, cells) in zip(lend, whole.items()):
-            setattr(m, slice, cells[:model.SIZES[slice] - 1 + int(digit)])
-        answer = act(m)
-        for slice, cells in whole.items():
-            part = getattr(m, slice)
-            cells[:len(part)] = part
-            setattr(m, slice, cells)
+        rest = self.machine.lend(lend)
+        answer = act(self.machine)
+        for slice, cells in rest.items():
+            getattr(self.machine, slice).extend(cells)
         return answer
 
     def answered(self, sign, line, expected, lend, act):
@@ -123,7 +106,7 @@ class Case:
         words = [sign] + ['%d' % x for x in got]
         for letter in STATE:
             now = getattr(self.machine, SLICES[letter])
-            words += ['%s%x:%x' % (letter, at, x) for at, x in enumerate(now) if x != before[letter][at]]
+            words += ['%s%x:%x' % (letter, at, x) for at, (x, old) in enumerate(zip(now, before[letter])) if x != old]
         ANSWERS.append(' '.join(words) + '\n')
         RUNS[0] += 1
         return got
@@ -143,8 +126,7 @@ class Case:
 
     def at(self, *places, mark=70):
         """The mark and the activations."""
-        cells = [mark, len(places)] + [x for place in places for x in place]
-        for at, x in enumerate(cells):
+        for at, x in enumerate(framed(mark, *places)):
             if self.machine.frames[at] != x:
                 self.set('f', at, x)
 
@@ -354,7 +336,7 @@ EDGES = {
 def is_whole(value):
     if value[0] == 2:
         return True
-    x = model.double(value[1])
+    x = double(value[1])
     return value[0] == 3 and x == x and abs(x) != INF and x == int(x) and -2**63 <= x < 2**63
 
 
@@ -762,7 +744,7 @@ def faults():
         case.stands(70, 0, 0, 1)
         case.at((0, 0))
         case.run(2, 60, 1, 0, 1)
-        case.set('c', 1, encoded(RETURN))
+        case.set('c', 1, packed(RETURN))
         case.run(3, 0, 1, 0, 1)
     case = Case('fault: nothing after the last', [proto(2, 0, [], [op('LoadBool', 0, 1), op('Move', 1, 0)])])
     case.clear()
@@ -784,7 +766,7 @@ def faults():
     case.run(9, 60, 3, 1, 1)
     case.run(0, 70, 0, 1, 1)
     case.run(3, 60, 0, 1, 1)
-    case.set('c', 4, encoded(op('Move', 1, 0)))
+    case.set('c', 4, packed(op('Move', 1, 0)))
     case.run(9, 0, 3, 0, 2)
     case = Case('a fault that nothing reaches', [
         proto(1, 0, [], [op('LoadBool', 0, 1, 1), op(39), RETURN, op(255)]), proto(1, 0, [], []), proto(2, 0, [], [op('Move', 5, 5)])])
@@ -979,14 +961,14 @@ def unfit():
             ('11, flag 128', op('Call', 1, 1, 2, flags=128)), ('12, arguments', op('Call', 1, 2, 2)), ('12, values', op('Call', 1, 1, 3)),
             ('10, operation 11', (11, 0, 1, 1, 2)), ('a Return', op('Return', 1, 1)), ('a Move', op('Move', 1, 1))):
         causes('a suspended activation stands after a Call that breaks a rule: %s' % what if what[0] == '1' else
-               'a suspended activation stands after %s' % what, ('c', 6, encoded(five)))
-    fits('the Call of a suspended activation is another', (70, 0, 2, 0), ('c', 6, encoded(op('Call', 0, 0, 3)))).run(9, 0, 4, 0, 3)
+               'a suspended activation stands after %s' % what, ('c', 6, packed(five)))
+    fits('the Call of a suspended activation is another', (70, 0, 2, 0), ('c', 6, packed(op('Call', 0, 0, 3)))).run(9, 0, 4, 0, 3)
     fits('the function of a suspended Call is none', (70, 0, 2, 0), ('r', 4, 0), ('v', 4, 0)).run(9, 0, 4, 0, 3)
     fits('the first activation is of prototype 1', (70, 0, 2, 0), ('f', 2, 1), ('f', 3, 3)).run(9, 0, 4, 1, 3)
     for number, what, five in BROKEN[:12:3]:
-        case = fits('the innermost instruction breaks a rule, %s' % what, (70, 0, 2, 0), ('c', 8, encoded(five)))
+        case = fits('the innermost instruction breaks a rule, %s' % what, (70, 0, 2, 0), ('c', 8, packed(five)))
         case.run(9, 60, 0, 2, 0)
-        case = fits('failed at an instruction that breaks a rule, %s' % what, (41, 0, 2, 0), ('c', 8, encoded(five)), ('f', 0, 41))
+        case = fits('failed at an instruction that breaks a rule, %s' % what, (41, 0, 2, 0), ('c', 8, packed(five)), ('f', 0, 41))
         case.run(9, 41, 0, 2, 0)
 
     # finished
@@ -1002,8 +984,8 @@ def unfit():
     causes('finished in a prototype that is not there', ('f', 0, 0), ('f', 1, 1), ('f', 2, 3))
     for what, five in (('10', op('Return', 0, 255)), ('11, its third byte', op('Return', 0, 1, 1)), ('11, its flags', op('Return', 0, 1, flags=2)),
                        ('12', op('Return', 0, 4)), ('12, none from 4', op('Return', 4, 0)), ('10, operation 13', (13, 0, 0, 1, 0))):
-        causes('finished at a Return that breaks a rule: %s' % what, ('f', 0, 0), ('f', 1, 1), ('c', 3, encoded(five)))
-    fits('finished at a Return of none from register 3', (0, 0, 0, 3), ('f', 0, 0), ('f', 1, 1), ('c', 3, encoded(op('Return', 3, 0))))
+        causes('finished at a Return that breaks a rule: %s' % what, ('f', 0, 0), ('f', 1, 1), ('c', 3, packed(five)))
+    fits('finished at a Return of none from register 3', (0, 0, 0, 3), ('f', 0, 0), ('f', 1, 1), ('c', 3, packed(op('Return', 3, 0))))
     causes('failed, with a register that holds no value', ('f', 0, 30), ('r', 0, 6))
     causes('finished, with a register that holds no value', ('f', 0, 0), ('f', 1, 1), ('r', 2, 6))
     fits('finished, with a dead register that holds no value', (0, 0, 0, 3), ('f', 0, 0), ('f', 1, 1), ('r', 3, 6))
@@ -1055,14 +1037,11 @@ def unfit():
 
 
 def main():
+    check = checking(__doc__)
     for group in (starts, binaries, unaries, comparisons, tests, loads, loops, calls, budgets, faults, unfit):
         group()
-    crate = os.path.join(HERE, '..', '..', 'crates', 'states')
-    for name, parts in (('stdin', LIST), ('stdout', ANSWERS)):
-        with open(os.path.join(crate, name), 'w', encoding='ascii', newline='\n') as out:
-            out.write(''.join(parts))
-    print('%d cases, %d starts and runs, %d bytes, %d bytes' % (
-        sum(part[0] == '#' for part in ANSWERS), RUNS[0], sum(map(len, LIST)), sum(map(len, ANSWERS))))
+    keep('states', ''.join(LIST), ''.join(ANSWERS), check)
+    print('%d cases, %d starts and runs' % (sum(part[0] == '#' for part in ANSWERS), RUNS[0]))
 
 
 main()

@@ -1,0 +1,1 @@
+"""A second deletion machine, in Python, for the outside cases: README.md says what it is and who uses it."""
