@@ -100,6 +100,11 @@ enum dm_number {
     DM_BUDGET = 70              /* the budget is used, and the machine still runs */
 };
 
+/* whether a number is a Lua error's: `isLuaError` of the definitions */
+#define DM_IS_LUA_ERROR(number) \
+    (((number) >= DM_ERROR_ADD && (number) <= DM_ERROR_LESS_EQUAL) || \
+     ((number) >= DM_ERROR_NO_FUNCTION && (number) <= DM_ERROR_REGISTERS))
+
 /* ---- what to lend, for a host that has nothing against static sizes ---- */
 
 typedef struct dm_storage {
@@ -157,8 +162,8 @@ uint32_t dm_start(const uint64_t *table, size_t table_length, const uint64_t *co
                   uint32_t *answer, size_t answer_length);
 
 /* Carries out at most `budget` instructions. 70: call it again to go on; a, then b, is the same as a + b. 0: finished,
- * dm_returned tells where the values are. 30 to 52: a Lua error. 60: the state is not fit to run (then it is
- * untouched), or the next instruction breaks a rule. A finished or failed machine gives its answer again. */
+ * dm_returned tells where the values are. A Lua error's number (DM_IS_LUA_ERROR). 60: the state is not
+ * fit to run (then it is untouched), or the next instruction breaks a rule. A finished or failed machine gives its answer again. */
 uint32_t dm_run(const uint64_t *table, size_t table_length, const uint64_t *code, size_t code_length,
                 const uint8_t *const_kinds, size_t const_kinds_length, const uint64_t *const_words, size_t const_words_length,
                 const uint8_t *texts, size_t texts_length,

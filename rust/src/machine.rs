@@ -178,7 +178,7 @@ impl fmt::Display for Answer {
 pub enum Outcome {
     /// 0: the outermost Return is done; [`Machine::values`] has what it returned.
     Finished,
-    /// 30 to 44, 50 to 52: the rule did what Lua forbids, or went too deep.
+    /// A [`LuaError`]'s number: the rule did what Lua forbids, or went too deep.
     Failed(LuaError),
     /// 70: the budget is used, and the machine still runs.
     Paused,
@@ -322,7 +322,7 @@ impl LuaError {
             .find(|error| u32::from(error.number()) == number)
     }
 
-    /// The number that the machine answers: 30 to 44, 50 to 52.
+    /// The number that the machine answers.
     pub fn number(&self) -> u8 {
         *self as u8
     }

@@ -9,11 +9,11 @@ use native.Mathlib.Omega.{arith}
 use native.Mathlib.Numerals.{add-one}
 use borrow.Author.Tests.{eqb-true, eqb-false}
 use lib.Dec.{eqb}
-use Rattle.image.proofs.Cases.{by-bool}
+use Rattle.choices.proofs.Choices.{by-bool}
 use Rattle.storage.specs.Layout.{Storage, longEnough}
-use Rattle.storage.specs.Fields.{prototypesOf, instructionsOf, instructionAt}
+use Rattle.storage.specs.Fields.{prototypesOf, instructionsOf}
 use Rattle.storage.specs.Stored.{readsBack}
-use Rattle.checker.specs.Check.{limitsOf, brokenAt, codeFrom, protosFrom, searchOf, checkOf}
+use Rattle.checker.specs.Check.{siteOf, brokenAt, codeFrom, protosFrom, searchOf, checkOf}
 use Rattle.checker.specs.Kept.{KeptAt, Sound, Demanded, BadAt, none, empty, breaks, FirstBad}
 use Rattle.checker.specs.declared.Checked.{Checked}
 use Rattle.checker.specs.declared.Checked.the-variants.{Accepted, Refused}
@@ -45,7 +45,7 @@ module _ (P Q : ℕ → Type 0) (decide : (j : ℕ) → P j ⊎ Q j) where
 module _ (table code : List ℕ) where
   good : (q i : ℕ) → KeptAt table code q i → brokenAt table code q i ≡ 0
   unfolding brokenAt
-  good q i = unbroken (limitsOf table q) i (instructionAt table code q i)
+  good q i = unbroken (siteOf table code q i)
 
   code-reach :
       (q k d : ℕ) (rest : Checked) → d ≤ k → ((j : ℕ) → j < d → KeptAt table code q j)
@@ -64,7 +64,7 @@ module _ (table code : List ℕ) where
       let k : ℕ = instructionsOf table d in
       let rest : Checked = protosFrom table code (n - (d + 1)) (d + 1) in
       rw (← add-one d)
-      (protos-reach n d (omega arith) (λ j g. f j (omega arith)) ∙ proto-open table code n d (limitsOf table d) refl (omega arith) (s .some)
+      (protos-reach n d (omega arith) (λ j g. f j (omega arith)) ∙ proto-open table code n d (instructionsOf table d) refl (omega arith) (s .some)
       ∙ code-reach d k k rest (omega arith) (s .each) ∙ code-end table code d k rest k (omega arith))
 
   search-passes :
@@ -78,13 +78,13 @@ module _ (table code : List ℕ) where
   search-refuses f (empty q h z) =
       let m : ℕ = prototypesOf table in
       search-start table code m refl (λ e. omega arith) ∙ protos-reach m q (omega arith) f
-      ∙ proto-empty table code m q (limitsOf table q) refl h z
+      ∙ proto-empty table code m q (instructionsOf table q) refl h z
   search-refuses f (breaks n q i h g p e z) =
       let m : ℕ = prototypesOf table in
       let k : ℕ = instructionsOf table q in
       let rest : Checked = protosFrom table code (m - (q + 1)) (q + 1) in
       search-start table code m refl (λ e. omega arith) ∙ protos-reach m q (omega arith) f
-      ∙ proto-open table code m q (limitsOf table q) refl h (λ e. omega arith) ∙ code-reach q k i rest (omega arith) p
+      ∙ proto-open table code m q (instructionsOf table q) refl h (λ e. omega arith) ∙ code-reach q k i rest (omega arith) p
       ∙ code-bad table code q k rest i n (sym e) g z
 
 -- ---- there is a first bad place, or there is none
@@ -97,7 +97,7 @@ module _ (table code : List ℕ) where
   unfolding brokenAt Breaks
   keeps-or-breaks q i =
       by-bool (eqb (brokenAt table code q i) 0)
-      (λ t. inl (kept (limitsOf table q) i (instructionAt table code q i) (eqb-true _ _ t))) (λ t. inr (eqb-false _ _ t))
+      (λ t. inl (kept (siteOf table code q i) (eqb-true _ _ t))) (λ t. inr (eqb-false _ _ t))
 
   -- what is bad in prototype q, at whatever instruction
   data BadIn (q : ℕ) : Type 0 where

@@ -1,5 +1,4 @@
 -- The laws behind the decoder and the search, and what the checker's answer says.
-pub mod Bools
 pub mod Places
 pub mod Shapes
 pub mod Lowest

@@ -6,12 +6,12 @@ use mathlib.Core.Logic.{_↔_}
 use native.Mathlib.Omega.{arith}
 use borrow.Author.Tests.{eqb-true, ne-eqb}
 use lib.Dec.{eqb}
-use Rattle.image.proofs.Cases.{by-bool}
+use Rattle.choices.proofs.Choices.{by-bool}
 use Rattle.checker.specs.Operations.{Shape, copies, loadsConstant, loadsBool, loadsNil, calls, returns, jumps, tests, testsAndSets, closes, prepares, loops, compares, combines, unknown, shapeAt}
-use Rattle.checker.specs.Rules.{carried, tidy, registersIn, constantsIn, targetsIn, prototypeIn, lowest, brokenOf}
+use Rattle.checker.specs.Rules.{carried, tidy, registersIn, constantsIn, targetsIn, prototypeIn, lowest, brokenAs, brokenOf}
 use Rattle.checker.specs.Decode.{operandsOf, decodeOf}
 use Rattle.checker.specs.Kept.{Kept}
-use Rattle.checker.specs.declared.Limits.{Limits}
+use Rattle.checker.specs.declared.Site.{Site}
 use Rattle.checker.specs.declared.Instruction.the-variants.{Bad}
 
 -- ---- the six rules
@@ -28,56 +28,55 @@ all-kept true true true false e f z = absurd (omega arith)
 all-kept true true true true false f z = absurd (omega arith)
 all-kept true true true true true false z = absurd (omega arith)
 
-module _ (l : Limits) (p w : ℕ) where
-  pub kept : brokenOf l p w ≡ 0 → Kept l p w
-  unfolding brokenOf
+module _ (s : Site) where
+  pub kept : brokenOf s ≡ 0 → Kept s
+  unfolding brokenOf brokenAs
   kept z =
-      let k =
-      all-kept (carried (shapeAt w) w) (tidy (shapeAt w) w) (registersIn (shapeAt w) (l .registers) w)
-      (constantsIn (shapeAt w) (l .constants) w) (targetsIn (l .instructions) p w) (prototypeIn (shapeAt w) (l .prototypes) w) z in
+      let x = shapeAt (s .word) in
+      let k = all-kept (carried x s) (tidy x s) (registersIn x s) (constantsIn x s) (targetsIn x s) (prototypeIn x s) z in
       record { carried = k .0; tidy = k .1; registers = k .2; constants = k .3; targets = k .4; prototype = k .5 }
 
-  pub unbroken : Kept l p w → brokenOf l p w ≡ 0
-  unfolding brokenOf lowest
+  pub unbroken : Kept s → brokenOf s ≡ 0
+  unfolding brokenOf brokenAs lowest
   unbroken k = rw (k .carried, k .tidy, k .registers, k .constants, k .targets, k .prototype)
 
 -- ---- the refusal
 
 -- where the operands are a refusal, rule 10 is broken
-not-carried : (s : Shape) (p w n : ℕ) → operandsOf s p w ≡ Bad n → carried s w ≡ false
+pub not-carried : (x : Shape) (s : Site) (n : ℕ) → operandsOf x (s .place) (s .word) ≡ Bad n → carried x s ≡ false
 unfolding operandsOf carried
-not-carried copies p w n e = cc
-not-carried loadsConstant p w n e = cc
-not-carried loadsBool p w n e = cc
-not-carried loadsNil p w n e = cc
-not-carried calls p w n e = cc
-not-carried returns p w n e = cc
-not-carried jumps p w n e = cc
-not-carried tests p w n e = cc
-not-carried testsAndSets p w n e = cc
-not-carried closes p w n e = cc
-not-carried prepares p w n e = cc
-not-carried loops p w n e = cc
-not-carried compares p w n e = cc
-not-carried combines p w n e = cc
-not-carried unknown p w n e = refl
+not-carried copies s n e = cc
+not-carried loadsConstant s n e = cc
+not-carried loadsBool s n e = cc
+not-carried loadsNil s n e = cc
+not-carried calls s n e = cc
+not-carried returns s n e = cc
+not-carried jumps s n e = cc
+not-carried tests s n e = cc
+not-carried testsAndSets s n e = cc
+not-carried closes s n e = cc
+not-carried prepares s n e = cc
+not-carried loops s n e = cc
+not-carried compares s n e = cc
+not-carried combines s n e = cc
+not-carried unknown s n e = refl
 
-module _ (l : Limits) (p w n : ℕ) where
+module _ (s : Site) (n : ℕ) where
   -- the number of a refusal
-  pub refused : decodeOf l p w ≡ Bad n → brokenOf l p w ≡ n
+  pub refused : decodeOf s ≡ Bad n → brokenOf s ≡ n
   unfolding decodeOf
   refused e =
-      by-bool (eqb (brokenOf l p w) 0)
-      (λ t. let k = kept l p w (eqb-true _ _ t) in
-      let f : carried (shapeAt w) w ≡ false = not-carried (shapeAt w) p w n (rw t at e) in
+      by-bool (eqb (brokenOf s) 0)
+      (λ t. let k = kept s (eqb-true _ _ t) in
+      let f : carried (shapeAt (s .word)) s ≡ false = not-carried (shapeAt (s .word)) s n (rw t at e) in
       let k10 = k .carried in
       cc)
-      (λ t. let b : Bad (brokenOf l p w) ≡ Bad n = rw t at e in
+      (λ t. let b : Bad (brokenOf s) ≡ Bad n = rw t at e in
       cc)
 
-  pub refuses : (n ≡ 0 → ⊥) → brokenOf l p w ≡ n → decodeOf l p w ≡ Bad n
+  pub refuses : (n ≡ 0 → ⊥) → brokenOf s ≡ n → decodeOf s ≡ Bad n
   unfolding decodeOf
   refuses h e = rw (e, ne-eqb n 0 h)
 
-  pub refused-lowest : (n ≡ 0 → ⊥) → (decodeOf l p w ≡ Bad n) ↔ (brokenOf l p w ≡ n)
+  pub refused-lowest : (n ≡ 0 → ⊥) → (decodeOf s ≡ Bad n) ↔ (brokenOf s ≡ n)
   refused-lowest h = (refused, refuses h)

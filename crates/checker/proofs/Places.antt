@@ -7,12 +7,11 @@ use native.Mathlib.Omega.{arith}
 use borrow.Author.Tests.{lt-ltb, le-ltb}
 use lib.Dec.{ltb}
 use lib.IntN.{ℤ, pos, negsuc}
-use Rattle.image.specs.Hex.{pick}
 use Rattle.checker.specs.Operations.{bcOf, targetOf}
 use Rattle.checker.specs.Rules.{inside, allInside}
 use Rattle.checker.specs.Decode.{placeOf}
 use Rattle.checker.specs.Steps.{placed}
-use Rattle.checker.proofs.Bools.{and-true, and-right}
+use Rattle.choices.proofs.Choices.{and-true, and-right}
 
 -- ---- one place
 
@@ -39,7 +38,7 @@ two n y z = rw (placed-inside n y, placed-inside n z, and-true (inside n z))
 
 -- one of two places
 pub either :
-    (n x y : ℕ) (b : Bool) → placed n (pos (pick b x y)) .inside ≡ allInside n (pick b (pos x ∷ []) (pos y ∷ []))
+    (n x y : ℕ) (b : Bool) → placed n (pos (cond b x y)) .inside ≡ allInside n (cond b (pos x ∷ []) (pos y ∷ []))
 either n x y true = one n (pos x)
 either n x y false = one n (pos y)
 
@@ -48,8 +47,8 @@ unfolding placed
 at-place n k h = rw h
 
 pub at-either :
-    (n x y : ℕ) (b : Bool) → allInside n (pick b (pos x ∷ []) (pos y ∷ [])) ≡ true → placed n (pos (pick b x y)) .at ≡ pick b x y
-at-either n x y b h = at-place n (pick b x y) (either n x y b ∙ h)
+    (n x y : ℕ) (b : Bool) → allInside n (cond b (pos x ∷ []) (pos y ∷ [])) ≡ true → placed n (pos (cond b x y)) .at ≡ cond b x y
+at-either n x y b h = at-place n (cond b x y) (either n x y b ∙ h)
 
 -- ---- the target of an offset
 
@@ -72,8 +71,8 @@ module _ (p w bc : ℕ) (e : bc ≡ bcOf w) where
 
 -- of three numbers the one that a target inside can be
 at-picked :
-    (n f g h : ℕ) (b t : Bool) → placed n (pick b (pos f) (cond t (negsuc g) (pos h))) .inside ≡ true
-    → placed n (pick b (pos f) (cond t (negsuc g) (pos h))) .at ≡ pick b f h
+    (n f g h : ℕ) (b t : Bool) → placed n (cond b (pos f) (cond t (negsuc g) (pos h))) .inside ≡ true
+    → placed n (cond b (pos f) (cond t (negsuc g) (pos h))) .at ≡ cond b f h
 unfolding placed
 at-picked n f g h true t e = rw e
 at-picked n f g h false true e = absurd (false≢true e)

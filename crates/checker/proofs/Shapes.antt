@@ -1,19 +1,18 @@
 -- From six tests to the rules at a shape, and from an operation to its shape. Assumes nothing.
 use Prim.Native.Nat.{ℕ, _+_, _≤_}
 use mathlib.Core.Path.{_≡_, refl, sym, ap, _∙_}
-use mathlib.Core.Bool.{Bool, true, false, false≢true}
+use mathlib.Core.Bool.{Bool, true, false, false≢true, cond}
 use mathlib.Core.List.{List, [], _∷_}
 use native.Mathlib.Omega.{arith}
 use borrow.Author.Tests.{eqb-true, ne-eqb, lt-leb, leb-true}
 use lib.Dec.{eqb, leb}
-use Rattle.image.proofs.Cases.{by-bool}
-use Rattle.image.specs.Hex.{pick}
+use Rattle.choices.proofs.Choices.{by-bool}
 use Rattle.image.specs.Instruction.{operationOf, flagsOf, aOf, bOf, cOf}
-use Rattle.checker.specs.Operations.{Shape, unknown, shapeOf, shapeAt, nextOf}
-use Rattle.checker.specs.Rules.{carried, tidy, registersIn, constantsIn, prototypeIn, allInside, targetsIn, lowest, brokenOf}
+use Rattle.checker.specs.Operations.{Shape, unknown, shapeOf, shapeAt}
+use Rattle.checker.specs.Rules.{carried, tidy, registersIn, constantsIn, targetsIn, prototypeIn, lowest, brokenAs, brokenOf}
 use Rattle.checker.specs.Decode.{operandsOf, decodeOf}
-use Rattle.checker.specs.Steps.{BytesOf, judged, brokenAs, decodeAs}
-use Rattle.checker.specs.declared.Limits.{Limits}
+use Rattle.checker.specs.Steps.{BytesOf, judged, decodeAs}
+use Rattle.checker.specs.declared.Site.{Site}
 use Rattle.checker.specs.declared.operands.Bytes.{Bytes}
 use Rattle.checker.specs.declared.Instruction.{Instruction}
 use Rattle.checker.specs.declared.Instruction.the-variants.{Bad}
@@ -36,27 +35,26 @@ same-inside true true true true false k15 i j f = refl
 same-inside true true true true true false i j f = refl
 same-inside true true true true true true i j f = f refl
 
--- six tests that are the rules at shape s decide as `decodeOf` does there
-module _ (s : Shape) (l : Limits) (p w : ℕ) where
+-- six tests that are the rules at shape x decide as `decodeOf` does there
+module _ (x : Shape) (s : Site) where
   pub shaped :
-      {r i j : Instruction} {k10 k11 k12 k13 k14 k15 : Bool} → r ≡ judged (lowest k10 k11 k12 k13 k14 k15) i
-      → k10 ≡ carried s w → k11 ≡ tidy s w → k12 ≡ registersIn s (l .registers) w → k13 ≡ constantsIn s (l .constants) w
-      → k14 ≡ allInside (l .instructions) (nextOf s p w) → k15 ≡ prototypeIn s (l .prototypes) w
-      → (allInside (l .instructions) (nextOf s p w) ≡ true → i ≡ j) → r ≡ decodeAs s l p w j
+      {r i j : Instruction} {k10 k11 k12 k13 k14 k15 : Bool} → r ≡ judged (lowest k10 k11 k12 k13 k14 k15) i → k10 ≡ carried x s
+      → k11 ≡ tidy x s → k12 ≡ registersIn x s → k13 ≡ constantsIn x s → k14 ≡ targetsIn x s → k15 ≡ prototypeIn x s
+      → (targetsIn x s ≡ true → i ≡ j) → r ≡ decodeAs x s j
   unfolding brokenAs
   shaped {k10 = k10} {k11 = k11} {k12 = k12} {k13 = k13} {k14 = k14} {k15 = k15} e e10 e11 e12 e13 e14 e15 f =
       rw (← e10, ← e11, ← e12, ← e13, ← e14, ← e15) (e ∙ same-inside k10 k11 k12 k13 k14 k15 _ _ (λ h. f (sym e14 ∙ h)))
 
 -- ---- an operation's arm: its number gives the shape, and the shape's decoder gives the answer
 
-module _ (l : Limits) (p w : ℕ) where
+module _ (s : Site) where
   pub arm :
-      {r i : Instruction} {o : ℕ} (k : ℕ) (s : Shape) → o ≡ operationOf w → o ≡ k → shapeOf k ≡ s
-      → (operationOf w ≡ k → operandsOf s p w ≡ i) → r ≡ decodeAs s l p w i → r ≡ decodeOf l p w
-  unfolding decodeOf brokenOf targetsIn brokenAs judged
-  arm {i = i} k s eo ek es f e =
-      let z : operationOf w ≡ k = sym eo ∙ ek in
-      let t : shapeAt w ≡ s = ap shapeOf z ∙ es in
+      {r i : Instruction} {o : ℕ} (k : ℕ) (x : Shape) → o ≡ operationOf (s .word) → o ≡ k → shapeOf k ≡ x
+      → (operationOf (s .word) ≡ k → operandsOf x (s .place) (s .word) ≡ i) → r ≡ decodeAs x s i → r ≡ decodeOf s
+  unfolding decodeOf brokenOf judged
+  arm {i = i} k x eo ek ex f e =
+      let z : operationOf (s .word) ≡ k = sym eo ∙ ek in
+      let t : shapeAt (s .word) ≡ x = ap shapeOf z ∙ ex in
       rw (t, f z) e
 
 -- ---- an operation that is not carried
@@ -68,7 +66,7 @@ NoneOf o (k ∷ ks) A = NoneOf o ks (A × (o ≡ k → ⊥))
 
 abbrev member : ℕ → List ℕ → Bool
 member k [] = false
-member k (j ∷ ks) = pick (eqb k j) true (member k ks)
+member k (j ∷ ks) = cond (eqb k j) true (member k ks)
 
 none-of : (o : ℕ) (ks : List ℕ) (A : Type 0) → NoneOf o ks A → A × ((k : ℕ) → member k ks ≡ true → o ≡ k → ⊥)
 none-of o [] A r = (r, λ k h. absurd (false≢true h))
@@ -118,9 +116,9 @@ module _ (o : ℕ) (none : (k : ℕ) → member k operations ≡ true → o ≡ 
       (by-bool (leb 40 o) (λ u. rw (u, lt-leb o 44 (high (leb-true 40 o u)))) (λ u. rw u)))
       (λ t. rw t))
 
-module _ (l : Limits) (p w : ℕ) where
-  pub no-arm : {A : Type 0} {o : ℕ} → o ≡ operationOf w → NoneOf o operations A → Bad 10 ≡ decodeOf l p w
-  unfolding decodeOf brokenOf carried operandsOf lowest
+module _ (s : Site) where
+  pub no-arm : {A : Type 0} {o : ℕ} → o ≡ operationOf (s .word) → NoneOf o operations A → Bad 10 ≡ decodeOf s
+  unfolding decodeOf brokenOf brokenAs carried operandsOf lowest
   no-arm {A} {o} e r =
-      let t : shapeAt w ≡ unknown = ap shapeOf (sym e) ∙ unknown-shape o (none-of o operations A r .1) in
+      let t : shapeAt (s .word) ≡ unknown = ap shapeOf (sym e) ∙ unknown-shape o (none-of o operations A r .1) in
       rw t

@@ -1,13 +1,13 @@
 -- The two searches, one turn at a time. Assumes nothing.
 use Prim.Native.Nat.{ℕ, suc, _+_, _-_, _<_, _≤_}
-use mathlib.Core.Path.{_≡_, sym, ap, _∙_}
+use mathlib.Core.Path.{_≡_, sym, _∙_}
 use mathlib.Core.List.{List}
 use native.Mathlib.Omega.{arith}
 use borrow.Author.Tests.{eq-eqb, ne-eqb}
-use Rattle.storage.specs.Fields.{prototypesOf, instructionsOf, instructionAt}
+use Rattle.storage.specs.Fields.{prototypesOf, instructionsOf}
 use Rattle.checker.specs.Rules.{brokenOf}
-use Rattle.checker.specs.Check.{limitsOf, brokenAt, codeFrom, protosFrom, searchOf}
-use Rattle.checker.specs.declared.Limits.{Limits}
+use Rattle.checker.specs.Check.{siteOf, brokenAt, codeFrom, protosFrom, searchOf}
+use Rattle.checker.specs.declared.Site.{Site}
 use Rattle.checker.specs.declared.Checked.{Checked}
 use Rattle.checker.specs.declared.Checked.the-variants.{Accepted, Refused}
 
@@ -20,12 +20,11 @@ none n i h = omega arith
 start : (n : ℕ) → n - 0 ≡ n
 start n = omega arith
 
--- the rule that the code finds at its limits
+-- the rule that the code finds at its site
 pub number :
-    (table code : List ℕ) (q i : ℕ) (l : Limits) (w n : ℕ) → l ≡ limitsOf table q → w ≡ instructionAt table code q i → n ≡ brokenOf l i w
-    → n ≡ brokenAt table code q i
+    (table code : List ℕ) (q i : ℕ) (s : Site) (n : ℕ) → s ≡ siteOf table code q i → n ≡ brokenOf s → n ≡ brokenAt table code q i
 unfolding brokenAt
-number table code q i l w n el ew en = cc
+number table code q i s n es en = cc
 
 module _ (table code : List ℕ) where
   -- instruction i of k instructions of prototype q
@@ -58,18 +57,14 @@ module _ (table code : List ℕ) where
     unfolding searchOf
     search-start e z = rw (start n, e, ne-eqb (prototypesOf table) 0 (λ t. z (e ∙ t)))
 
-    module _ (q : ℕ) (l : Limits) (e : l ≡ limitsOf table q) where
-      size : l .instructions ≡ instructionsOf table q
-      size = ap (λ (x : Limits). x .instructions) e
-
-      pub proto-empty : q < n → l .instructions ≡ 0 → onwards q ≡ Refused 14 q 0
+    module _ (q k : ℕ) (e : k ≡ instructionsOf table q) where
+      pub proto-empty : q < n → k ≡ 0 → onwards q ≡ Refused 14 q 0
       unfolding protosFrom
-      proto-empty h z = rw (left n q h, ← size, eq-eqb (l .instructions) 0 z)
+      proto-empty h z = rw (left n q h, ← e, eq-eqb k 0 z)
 
-      pub proto-open :
-          q < n → (l .instructions ≡ 0 → ⊥) → onwards q ≡ codeFrom table code q (l .instructions - 0) 0 (onwards (q + 1))
+      pub proto-open : q < n → (k ≡ 0 → ⊥) → onwards q ≡ codeFrom table code q (k - 0) 0 (onwards (q + 1))
       unfolding protosFrom
-      proto-open h z = rw (left n q h, start (l .instructions), ← size, ne-eqb (l .instructions) 0 z)
+      proto-open h z = rw (left n q h, start k, ← e, ne-eqb k 0 z)
 
     pub search-end : (q : ℕ) → n ≤ q → onwards q ≡ Accepted
     unfolding protosFrom

@@ -4,12 +4,13 @@
 use Prim.Native.Nat.{ℕ, zero, suc, _+_}
 use mathlib.Core.List.{List}
 use lib.Dec.{eqb}
-use Rattle.image.specs.Hex.{pick}
+use mathlib.Core.Bool.{cond}
 use Rattle.storage.specs.Layout.{Storage, longEnough}
 use Rattle.storage.specs.Fields.{prototypesOf, registersOf, constantsOf, instructionsOf, instructionAt}
 use Rattle.storage.specs.Stored.{readsBack}
 use Rattle.checker.specs.Rules.{brokenOf}
 use Rattle.checker.specs.declared.Limits.{Limits}
+use Rattle.checker.specs.declared.Site.{Site}
 use Rattle.checker.specs.declared.Checked.{Checked}
 use Rattle.checker.specs.declared.Checked.the-variants.{Accepted, Refused}
 
@@ -23,26 +24,33 @@ limitsOf table q =
       prototypes = prototypesOf table;
     }
 
+abbrev pub site : Limits → ℕ → ℕ → Site
+site l p w = record { limits = l; place = p; word = w }
+
+-- instruction p of prototype q
+abbrev pub siteOf : List ℕ → List ℕ → ℕ → ℕ → Site
+siteOf table code q p = site (limitsOf table q) p (instructionAt table code q p)
+
 -- the rule that instruction i of prototype q breaks
 unfoldable pub brokenAt : List ℕ → List ℕ → ℕ → ℕ → ℕ
-brokenAt table code q i = brokenOf (limitsOf table q) i (instructionAt table code q i)
+brokenAt table code q i = brokenOf (siteOf table code q i)
 
 -- k instructions of prototype q from i on; `rest` is the verdict on what follows
 unfoldable pub codeFrom : List ℕ → List ℕ → ℕ → ℕ → ℕ → Checked → Checked
 codeFrom table code q zero i rest = rest
 codeFrom table code q (suc k) i rest =
-    pick (eqb (brokenAt table code q i) 0) (codeFrom table code q k (i + 1) rest) (Refused (brokenAt table code q i) q i)
+    cond (eqb (brokenAt table code q i) 0) (codeFrom table code q k (i + 1) rest) (Refused (brokenAt table code q i) q i)
 
 -- k prototypes from q on
 unfoldable pub protosFrom : List ℕ → List ℕ → ℕ → ℕ → Checked
 protosFrom table code zero q = Accepted
 protosFrom table code (suc k) q =
-    pick (eqb (instructionsOf table q) 0) (Refused 14 q 0)
+    cond (eqb (instructionsOf table q) 0) (Refused 14 q 0)
     (codeFrom table code q (instructionsOf table q) 0 (protosFrom table code k (q + 1)))
 
 unfoldable pub searchOf : List ℕ → List ℕ → Checked
-searchOf table code = pick (eqb (prototypesOf table) 0) (Refused 15 0 0) (protosFrom table code (prototypesOf table) 0)
+searchOf table code = cond (eqb (prototypesOf table) 0) (Refused 15 0 0) (protosFrom table code (prototypesOf table) 0)
 
 -- "Writer, checker and start give 5 for storage or state, then 6"
 unfoldable pub checkOf : Storage → Checked
-checkOf S = pick (longEnough S) (pick (readsBack S) (searchOf (S .table) (S .code)) (Refused 6 0 0)) (Refused 5 0 0)
+checkOf S = cond (longEnough S) (cond (readsBack S) (searchOf (S .table) (S .code)) (Refused 6 0 0)) (Refused 5 0 0)

@@ -4,24 +4,24 @@ use mathlib.Core.Path.{_≡_}
 use mathlib.Core.Bool.{true}
 use mathlib.Core.List.{List}
 use Rattle.storage.specs.Layout.{Storage, longEnough}
-use Rattle.storage.specs.Fields.{prototypesOf, instructionsOf, instructionAt}
+use Rattle.storage.specs.Fields.{prototypesOf, instructionsOf}
 use Rattle.storage.specs.Stored.{readsBack}
 use Rattle.checker.specs.Operations.{shapeAt}
 use Rattle.checker.specs.Rules as rules
-use Rattle.checker.specs.Check.{limitsOf, brokenAt}
-use Rattle.checker.specs.declared.Limits.{Limits}
+use Rattle.checker.specs.Check.{siteOf, brokenAt}
+use Rattle.checker.specs.declared.Site.{Site}
 
--- the six rules, 10 to 15, at instruction p
-pub record Kept (l : Limits) (p w : ℕ) : Type 0 where
-  pub carried : rules.carried (shapeAt w) w ≡ true
-  pub tidy : rules.tidy (shapeAt w) w ≡ true
-  pub registers : rules.registersIn (shapeAt w) (l .registers) w ≡ true
-  pub constants : rules.constantsIn (shapeAt w) (l .constants) w ≡ true
-  pub targets : rules.targetsIn (l .instructions) p w ≡ true
-  pub prototype : rules.prototypeIn (shapeAt w) (l .prototypes) w ≡ true
+-- the six rules, 10 to 15, at one instruction
+pub record Kept (s : Site) : Type 0 where
+  pub carried : rules.carried (shapeAt (s .word)) s ≡ true
+  pub tidy : rules.tidy (shapeAt (s .word)) s ≡ true
+  pub registers : rules.registersIn (shapeAt (s .word)) s ≡ true
+  pub constants : rules.constantsIn (shapeAt (s .word)) s ≡ true
+  pub targets : rules.targetsIn (shapeAt (s .word)) s ≡ true
+  pub prototype : rules.prototypeIn (shapeAt (s .word)) s ≡ true
 
 abbrev pub KeptAt : List ℕ → List ℕ → ℕ → ℕ → Type 0
-KeptAt table code q i = Kept (limitsOf table q) i (instructionAt table code q i)
+KeptAt table code q i = Kept (siteOf table code q i)
 
 -- prototype q has instructions, and each keeps the rules
 pub record Sound (table code : List ℕ) (q : ℕ) : Type 0 where

@@ -1,10 +1,9 @@
 -- The 29 operations that are carried over, by the way they use their bytes: document 01, "What is carried over" and "Operands". Assumes nothing.
 use Prim.Native.Nat.{ℕ, _+_, _*_}
-use mathlib.Core.Bool.{Bool, true}
+use mathlib.Core.Bool.{Bool, true, cond}
 use mathlib.Core.List.{List, [], _∷_}
 use lib.Dec.{eqb, leb, ltb}
 use lib.IntN.{ℤ, pos, _-ℤ_}
-use Rattle.image.specs.Hex.{pick}
 use Rattle.image.specs.Instruction.{operationOf, flagsOf, bOf, cOf}
 
 -- how an operation uses its bytes a, b, c
@@ -43,20 +42,20 @@ pub data Shape : Type 0 where
 -- Not, Minus, BitNot, Add, Sub, Mul, Div, IDiv, Mod 38, BitAnd 40, BitOr, BitXor, ShiftLeft, ShiftRight 44"
 unfoldable pub shapeOf : ℕ → Shape
 shapeOf o =
-    pick (eqb o 0) copies
-    (pick (eqb o 1) loadsConstant
-    (pick (eqb o 2) loadsBool
-    (pick (eqb o 3) loadsNil
-    (pick (eqb o 10) calls
-    (pick (eqb o 12) returns
-    (pick (eqb o 14) jumps
-    (pick (eqb o 15) tests
-    (pick (eqb o 16) testsAndSets
-    (pick (eqb o 17) closes
-    (pick (eqb o 18) prepares
-    (pick (eqb o 19) loops
-    (pick (leb 27 o)
-    (pick (leb o 29) compares (pick (leb o 32) copies (pick (leb o 38) combines (pick (leb 40 o) (pick (leb o 44) combines unknown) unknown))))
+    cond (eqb o 0) copies
+    (cond (eqb o 1) loadsConstant
+    (cond (eqb o 2) loadsBool
+    (cond (eqb o 3) loadsNil
+    (cond (eqb o 10) calls
+    (cond (eqb o 12) returns
+    (cond (eqb o 14) jumps
+    (cond (eqb o 15) tests
+    (cond (eqb o 16) testsAndSets
+    (cond (eqb o 17) closes
+    (cond (eqb o 18) prepares
+    (cond (eqb o 19) loops
+    (cond (leb 27 o)
+    (cond (leb o 29) compares (cond (leb o 32) copies (cond (leb o 38) combines (cond (leb 40 o) (cond (leb o 44) combines unknown) unknown))))
     unknown))))))))))))
 
 abbrev pub shapeAt : ℕ → Shape
@@ -68,21 +67,21 @@ bcOf w = bOf w * 256 + cOf w
 
 -- "offsets are signed 16-bit, from the instruction after"
 unfoldable pub targetOf : ℕ → ℕ → ℤ
-targetOf p w = pick (ltb (bcOf w) 32768) (pos (p + 1 + bcOf w)) (pos (p + 1 + bcOf w) -ℤ pos 65536)
+targetOf p w = cond (ltb (bcOf w) 32768) (pos (p + 1 + bcOf w)) (pos (p + 1 + bcOf w) -ℤ pos 65536)
 
 -- "Flag 1 makes left a constant, flag 2 right."
 unfoldable pub leftIsConstant : ℕ → Bool
-leftIsConstant w = pick (eqb (flagsOf w) 1) true (eqb (flagsOf w) 3)
+leftIsConstant w = cond (eqb (flagsOf w) 1) true (eqb (flagsOf w) 3)
 
 unfoldable pub rightIsConstant : ℕ → Bool
-rightIsConstant w = pick (eqb (flagsOf w) 2) true (eqb (flagsOf w) 3)
+rightIsConstant w = cond (eqb (flagsOf w) 2) true (eqb (flagsOf w) 3)
 
 -- "Each place where the instruction may go next": "p + 1; p + 2 too for Test, TestSet, Eq, Less, LessEq; only p + 2 for LoadBool with skip; only the target for
 -- Jump and Prep; p + 1 and the target for NumericForLoop; none for Return"
 unfoldable pub nextOf : Shape → ℕ → ℕ → List ℤ
 nextOf copies p w = pos (p + 1) ∷ []
 nextOf loadsConstant p w = pos (p + 1) ∷ []
-nextOf loadsBool p w = pick (eqb (cOf w) 0) (pos (p + 1) ∷ []) (pos (p + 2) ∷ [])
+nextOf loadsBool p w = cond (eqb (cOf w) 0) (pos (p + 1) ∷ []) (pos (p + 2) ∷ [])
 nextOf loadsNil p w = pos (p + 1) ∷ []
 nextOf calls p w = pos (p + 1) ∷ []
 nextOf returns p w = []
@@ -95,6 +94,3 @@ nextOf loops p w = pos (p + 1) ∷ targetOf p w ∷ []
 nextOf compares p w = pos (p + 1) ∷ pos (p + 2) ∷ []
 nextOf combines p w = pos (p + 1) ∷ []
 nextOf unknown p w = []
-
-abbrev pub nextPlaces : ℕ → ℕ → List ℤ
-nextPlaces p w = nextOf (shapeAt w) p w

@@ -1,15 +1,14 @@
--- For the code's own steps: an instruction's bytes, a place to go next and whether it lies inside, and the rules at a shape that is known already.
+-- For the code's own steps: an instruction's bytes, a place to go next and whether it lies inside, and the answer at a shape that is known already.
 -- Assumes nothing.
 use Prim.Native.Nat.{ℕ}
 use mathlib.Core.Path.{_≡_}
-use mathlib.Core.Bool.{false}
+use mathlib.Core.Bool.{false, cond}
 use lib.Dec.{eqb, ltb}
 use lib.IntN.{ℤ, pos, negsuc}
-use Rattle.image.specs.Hex.{pick}
 use Rattle.image.specs.Instruction.{flagsOf, aOf, bOf, cOf}
-use Rattle.checker.specs.Operations.{Shape, nextOf}
-use Rattle.checker.specs.Rules.{carried, tidy, registersIn, constantsIn, prototypeIn, allInside, lowest}
-use Rattle.checker.specs.declared.Limits.{Limits}
+use Rattle.checker.specs.Operations.{Shape}
+use Rattle.checker.specs.Rules.{brokenAs}
+use Rattle.checker.specs.declared.Site.{Site}
 use Rattle.checker.specs.declared.operands.Bytes.{Bytes}
 use Rattle.checker.specs.declared.next.Place.{Place}
 use Rattle.checker.specs.declared.Instruction.{Instruction}
@@ -24,19 +23,13 @@ pub record BytesOf (w : ℕ) (x : Bytes) : Type 0 where
 
 -- a place z, if it lies in 0 to n - 1
 unfoldable pub placed : ℕ → ℤ → Place
-placed n (pos k) = record { inside = ltb k n; at = pick (ltb k n) k 0 }
+placed n (pos k) = record { inside = ltb k n; at = cond (ltb k n) k 0 }
 placed n (negsuc k) = record { inside = false; at = 0 }
 
 -- an instruction, or its refusal where it breaks rule n
 unfoldable pub judged : ℕ → Instruction → Instruction
-judged n i = pick (eqb n 0) i (instruction.Bad n)
-
--- `brokenOf` at a shape
-unfoldable pub brokenAs : Shape → Limits → ℕ → ℕ → ℕ
-brokenAs s l p w =
-    lowest (carried s w) (tidy s w) (registersIn s (l .registers) w) (constantsIn s (l .constants) w)
-    (allInside (l .instructions) (nextOf s p w)) (prototypeIn s (l .prototypes) w)
+judged n i = cond (eqb n 0) i (instruction.Bad n)
 
 -- `decodeOf` at a shape whose operands are i
-abbrev pub decodeAs : Shape → Limits → ℕ → ℕ → Instruction → Instruction
-decodeAs s l p w i = judged (brokenAs s l p w) i
+abbrev pub decodeAs : Shape → Site → Instruction → Instruction
+decodeAs x s i = judged (brokenAs x s) i

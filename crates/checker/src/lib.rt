@@ -7,10 +7,10 @@ mod rules;
 
 use storage::Validity;
 ghost use mathlib.Core.Path.{_≡_};
-ghost use Rattle.storage.specs.Layout.{storage};
+ghost use Rattle.storage.specs.Layout.{storageIn};
 ghost use Rattle.checker.specs.Rules.{brokenOf};
-ghost use Rattle.checker.specs.Decode.{decodeOf};
-ghost use Rattle.checker.specs.Check.{limitsOf, searchOf, checkOf};
+ghost use Rattle.checker.specs.Decode.{decodeOf, classOf};
+ghost use Rattle.checker.specs.Check.{limitsOf, siteOf, searchOf, checkOf};
 
 // What an instruction may name: registers R, constants K and instructions n of its prototype, the image's prototypes.
 pub struct Limits {
@@ -18,6 +18,14 @@ pub struct Limits {
     pub constants: usize,
     pub instructions: usize,
     pub prototypes: usize,
+}
+
+// An instruction where it stands: the limits of its prototype, its place there, and its word. A rule that looks at more, as
+// another instruction or a descriptor, adds a field here, which `site_of` fills, and no parameter to sixteen functions.
+pub struct Site {
+    pub limits: Limits,
+    pub place: usize,
+    pub word: u64,
 }
 
 pub enum Operand {
@@ -72,57 +80,88 @@ pub enum Instruction {
     Bad(u8),
 }
 
+// What an instruction is to the activations around it: only a Call lets a caller wait, only a Return ends a machine.
+pub enum Class {
+    // A Call: its function's register, where the returned values go, and how many it asks for.
+    Calls(usize, usize),
+    // A Return: the first register that it hands down, and how many.
+    Returns(usize, usize),
+    Other,
+}
+
 // The checker's answer: accepted, or the number, the prototype and the instruction.
 pub enum Checked {
     Accepted,
     Refused(u8, usize, usize),
 }
 
-// Instruction p, w, of a prototype with these limits: with its operands worked out, or refused.
-pub fn decode(l: Limits, p: usize, w: u64) -> Instruction
-    ensures { λ r. ⌜ r ≡ decodeOf l p w ⌝ }
+// The instruction with its operands worked out, or refused.
+pub fn decode(s: Site) -> Instruction
+    ensures { λ r. ⌜ r ≡ decodeOf s ⌝ }
 {
-    match image::operation_of(w) {
-        0 => rules::decode_copies(Unary::Move, l, p, w),
-        1 => rules::decode_load_constant(l, p, w),
-        2 => rules::decode_load_bool(l, p, w),
-        3 => rules::decode_load_nil(l, p, w),
-        10 => rules::decode_call(l, p, w),
-        12 => rules::decode_return(l, p, w),
-        14 => rules::decode_jump(l, p, w),
-        15 => rules::decode_test(l, p, w),
-        16 => rules::decode_test_set(l, p, w),
-        17 => rules::decode_closure(l, p, w),
-        18 => rules::decode_prep(l, p, w),
-        19 => rules::decode_loop(l, p, w),
-        27 => rules::decode_compares(Compare::Eq, l, p, w),
-        28 => rules::decode_compares(Compare::Less, l, p, w),
-        29 => rules::decode_compares(Compare::LessEq, l, p, w),
-        30 => rules::decode_copies(Unary::Not, l, p, w),
-        31 => rules::decode_copies(Unary::Minus, l, p, w),
-        32 => rules::decode_copies(Unary::BitNot, l, p, w),
-        33 => rules::decode_combines(Binary::Add, l, p, w),
-        34 => rules::decode_combines(Binary::Sub, l, p, w),
-        35 => rules::decode_combines(Binary::Mul, l, p, w),
-        36 => rules::decode_combines(Binary::Div, l, p, w),
-        37 => rules::decode_combines(Binary::IDiv, l, p, w),
-        38 => rules::decode_combines(Binary::Mod, l, p, w),
-        40 => rules::decode_combines(Binary::BitAnd, l, p, w),
-        41 => rules::decode_combines(Binary::BitOr, l, p, w),
-        42 => rules::decode_combines(Binary::BitXor, l, p, w),
-        43 => rules::decode_combines(Binary::ShiftLeft, l, p, w),
-        44 => rules::decode_combines(Binary::ShiftRight, l, p, w),
+    match image::operation_of(s.word) {
+        0 => rules::decode_copies(Unary::Move, s),
+        1 => rules::decode_load_constant(s),
+        2 => rules::decode_load_bool(s),
+        3 => rules::decode_load_nil(s),
+        10 => rules::decode_call(s),
+        12 => rules::decode_return(s),
+        14 => rules::decode_jump(s),
+        15 => rules::decode_test(s),
+        16 => rules::decode_test_set(s),
+        17 => rules::decode_closure(s),
+        18 => rules::decode_prep(s),
+        19 => rules::decode_loop(s),
+        27 => rules::decode_compares(Compare::Eq, s),
+        28 => rules::decode_compares(Compare::Less, s),
+        29 => rules::decode_compares(Compare::LessEq, s),
+        30 => rules::decode_copies(Unary::Not, s),
+        31 => rules::decode_copies(Unary::Minus, s),
+        32 => rules::decode_copies(Unary::BitNot, s),
+        33 => rules::decode_combines(Binary::Add, s),
+        34 => rules::decode_combines(Binary::Sub, s),
+        35 => rules::decode_combines(Binary::Mul, s),
+        36 => rules::decode_combines(Binary::Div, s),
+        37 => rules::decode_combines(Binary::IDiv, s),
+        38 => rules::decode_combines(Binary::Mod, s),
+        40 => rules::decode_combines(Binary::BitAnd, s),
+        41 => rules::decode_combines(Binary::BitOr, s),
+        42 => rules::decode_combines(Binary::BitXor, s),
+        43 => rules::decode_combines(Binary::ShiftLeft, s),
+        44 => rules::decode_combines(Binary::ShiftRight, s),
         _ => Instruction::Bad(10),
+    }
+}
+
+pub fn class_of(i: Instruction) -> Class
+    ensures { λ r. ⌜ r ≡ classOf i ⌝ }
+{
+    match i {
+        Instruction::Unary(_, _, _) => Class::Other,
+        Instruction::LoadConstant(_, _) => Class::Other,
+        Instruction::LoadBool(_, _, _) => Class::Other,
+        Instruction::LoadNil(_, _) => Class::Other,
+        Instruction::Call(function, _, returns) => Class::Calls(function, returns),
+        Instruction::Return(start, n) => Class::Returns(start, n),
+        Instruction::Jump(_) => Class::Other,
+        Instruction::Test(_, _) => Class::Other,
+        Instruction::TestSet(_, _, _) => Class::Other,
+        Instruction::Closure(_, _) => Class::Other,
+        Instruction::NumericForPrep(_, _) => Class::Other,
+        Instruction::NumericForLoop(_, _) => Class::Other,
+        Instruction::Compare(_, _, _, _) => Class::Other,
+        Instruction::Binary(_, _, _, _) => Class::Other,
+        Instruction::Bad(_) => Class::Other,
     }
 }
 
 // ---- the search
 
 // The rule that an instruction breaks, 0 where it keeps them all.
-fn broken(l: Limits, p: usize, w: u64) -> u8
-    ensures { λ r. ⌜ r ≡ brokenOf l p w ⌝ }
+fn broken(s: Site) -> u8
+    ensures { λ r. ⌜ r ≡ brokenOf s ⌝ }
 {
-    let i = decode(l, p, w);
+    let i = decode(s);
     let Instruction::Bad(n) = i else {
         return 0;
     };
@@ -130,7 +169,7 @@ fn broken(l: Limits, p: usize, w: u64) -> u8
 }
 
 // What the instructions of prototype q may name.
-pub fn limits_of(table: &[u64], q: usize) -> Limits
+fn limits_of(table: &[u64], q: usize) -> Limits
     ensures { λ r. ⌜ r ≡ limitsOf (now (table .entry)) q ⌝ }
 {
     Limits {
@@ -138,6 +177,18 @@ pub fn limits_of(table: &[u64], q: usize) -> Limits
         constants: storage::constants(table, q),
         instructions: storage::instructions(table, q),
         prototypes: storage::prototypes(table),
+    }
+}
+
+// Instruction p of prototype q.
+pub fn site_of(table: &[u64], code: &[u64], q: usize, p: usize) -> Site
+    ensures { λ r. ⌜ r ≡ siteOf (now (table .entry)) (now (code .entry)) q p ⌝ }
+{
+    let l = limits_of(table, q);
+    Site {
+        limits: l,
+        place: p,
+        word: storage::instruction(table, code, q, p),
     }
 }
 
@@ -152,15 +203,14 @@ pub fn search(table: &[u64], code: &[u64]) -> Checked
     let mut found = Checked::Accepted;
     let mut q: usize = 0;
     'search: while q < prototypes {
-        let l = limits_of(table, q);
-        let instructions = l.instructions;
+        let instructions = storage::instructions(table, q);
         if instructions == 0 {
             found = Checked::Refused(14, q, 0);
             break 'search;
         }
         let mut i: usize = 0;
         while i < instructions {
-            let n = broken(l, i, storage::instruction(table, code, q, i));
+            let n = broken(site_of(table, code, q, i));
             if n != 0 {
                 found = Checked::Refused(n, q, i);
                 break 'search;
@@ -179,7 +229,7 @@ pub fn check(
     const_words: &[u64],
     texts: &[u8],
 ) -> Checked
-    ensures { λ r. ⌜ r ≡ checkOf (storage (now (table .entry)) (now (code .entry)) (now («const_kinds» .entry)) (now («const_words» .entry)) (now (texts .entry))) ⌝ }
+    ensures { λ r. ⌜ r ≡ checkOf (storageIn table code «const_kinds» «const_words» texts) ⌝ }
 {
     if !storage::is_long_enough(table, code, const_kinds, const_words, texts) {
         return Checked::Refused(5, 0, 0);

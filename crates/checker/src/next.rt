@@ -1,10 +1,11 @@
-// Where an instruction may go next. No sum is formed that could be too large, so any place p may be asked about.
+// Where an instruction may go next. No sum is formed that could be too large, so any place may be asked about.
+use crate::Site;
 use crate::operands;
 ghost use mathlib.Core.Path.{_≡_};
 ghost use mathlib.Core.List.{[], _∷_};
 ghost use Prim.Native.Nat.{_+_};
 ghost use lib.IntN.{pos};
-ghost use Rattle.image.specs.Hex.{pick};
+ghost use mathlib.Core.Bool.{cond};
 ghost use Rattle.checker.specs.Operations.{targetOf};
 ghost use Rattle.checker.specs.Rules.{allInside};
 ghost use Rattle.checker.specs.Steps.{placed};
@@ -38,39 +39,40 @@ pub(crate) fn ahead(p: usize, d: usize, n: usize) -> Place
 }
 
 // p + 1 alone.
-pub(crate) fn next_inside(p: usize, n: usize) -> bool
-    ensures { λ r. ⌜ r ≡ allInside n (pos (p + 1) ∷ []) ⌝ }
+pub(crate) fn next_inside(s: Site) -> bool
+    ensures { λ r. ⌜ r ≡ allInside (s .limits .instructions) (pos (s .place + 1) ∷ []) ⌝ }
 {
-    let next = ahead(p, 1, n);
+    let next = ahead(s.place, 1, s.limits.instructions);
     next.inside
 }
 
 // p + 1 and p + 2.
-pub(crate) fn skip_inside(p: usize, n: usize) -> bool
-    ensures { λ r. ⌜ r ≡ allInside n (pos (p + 1) ∷ pos (p + 2) ∷ []) ⌝ }
+pub(crate) fn skip_inside(s: Site) -> bool
+    ensures { λ r. ⌜ r ≡ allInside (s .limits .instructions) (pos (s .place + 1) ∷ pos (s .place + 2) ∷ []) ⌝ }
 {
-    let next = ahead(p, 1, n);
-    let skip = ahead(p, 2, n);
+    let next = ahead(s.place, 1, s.limits.instructions);
+    let skip = ahead(s.place, 2, s.limits.instructions);
     next.inside & skip.inside
 }
 
 // p + 1, or p + 2 where it skips.
-pub(crate) fn next_or_skip(p: usize, goes_on: bool, n: usize) -> Place
-    ensures { λ r. ⌜ r ≡ placed n (pos (pick «goes_on» (p + 1) (p + 2))) ⌝ }
+pub(crate) fn next_or_skip(s: Site, goes_on: bool) -> Place
+    ensures { λ r. ⌜ r ≡ placed (s .limits .instructions) (pos (cond «goes_on» (s .place + 1) (s .place + 2))) ⌝ }
 {
     if goes_on {
-        return ahead(p, 1, n);
+        return ahead(s.place, 1, s.limits.instructions);
     }
-    ahead(p, 2, n)
+    ahead(s.place, 2, s.limits.instructions)
 }
 
 // From 32,768 on an offset is negative: -1, 65,535, leads to the instruction itself, -32,768 back by 32,767.
-pub(crate) fn target_of(p: usize, w: u64, n: usize) -> Place
-    ensures { λ r. ⌜ r ≡ placed n (targetOf p w) ⌝ }
+pub(crate) fn target_of(s: Site) -> Place
+    ensures { λ r. ⌜ r ≡ placed (s .limits .instructions) (targetOf (s .place) (s .word)) ⌝ }
 {
-    let bc = operands::bc_of(w);
+    let p = s.place;
+    let bc = operands::bc_of(s.word);
     if bc < 32768 {
-        return ahead(p, 1 + bc, n);
+        return ahead(p, 1 + bc, s.limits.instructions);
     }
     let back = 65535 - bc;
     if p < back {
@@ -79,5 +81,5 @@ pub(crate) fn target_of(p: usize, w: u64, n: usize) -> Place
             at: 0,
         };
     }
-    ahead(p - back, 0, n)
+    ahead(p - back, 0, s.limits.instructions)
 }

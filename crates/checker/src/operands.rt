@@ -1,9 +1,9 @@
 // What an instruction says: its bytes as numbers, and its sources, which a flag makes constants.
 use crate::Operand;
+use crate::Site;
 ghost use mathlib.Core.Path.{_≡_};
-ghost use mathlib.Core.Bool.{true};
+ghost use mathlib.Core.Bool.{true, cond};
 ghost use lib.Dec.{eqb};
-ghost use Rattle.image.specs.Hex.{pick};
 ghost use Rattle.checker.specs.Operations.{bcOf};
 ghost use Rattle.checker.specs.Rules.{sourcesIn, sourceConstants};
 ghost use Rattle.checker.specs.Decode.{leftOf, rightOf};
@@ -36,7 +36,7 @@ pub(crate) fn bc_of(w: u64) -> usize
 
 // Whether a flag, 1 or 2, is set.
 fn has_flag(flags: usize, flag: usize) -> bool
-    ensures { λ r. ⌜ r ≡ pick (eqb flags flag) true (eqb flags 3) ⌝ }
+    ensures { λ r. ⌜ r ≡ cond (eqb flags flag) true (eqb flags 3) ⌝ }
 {
     if flags == flag {
         return true;
@@ -45,7 +45,7 @@ fn has_flag(flags: usize, flag: usize) -> bool
 }
 
 fn make_operand(is_constant: bool, at: usize) -> Operand
-    ensures { λ r. ⌜ r ≡ pick «is_constant» (Operand.Constant at) (Operand.Register at) ⌝ }
+    ensures { λ r. ⌜ r ≡ cond «is_constant» (Operand.Constant at) (Operand.Register at) ⌝ }
 {
     if is_constant {
         return Operand::Constant(at);
@@ -68,21 +68,21 @@ pub(crate) fn right_of(w: u64) -> Operand
 }
 
 // 12 for the sources: registers.
-pub(crate) fn sources_in(registers: usize, w: u64) -> bool
-    ensures { λ r. ⌜ r ≡ sourcesIn registers w ⌝ }
+pub(crate) fn sources_in(s: Site) -> bool
+    ensures { λ r. ⌜ r ≡ sourcesIn s ⌝ }
 {
-    let x = bytes_of(w);
+    let x = bytes_of(s.word);
     let left = has_flag(x.flags, 1);
     let right = has_flag(x.flags, 2);
-    (left | (x.b < registers)) & (right | (x.c < registers))
+    (left | (x.b < s.limits.registers)) & (right | (x.c < s.limits.registers))
 }
 
 // 13 for the sources: constants.
-pub(crate) fn source_constants(constants: usize, w: u64) -> bool
-    ensures { λ r. ⌜ r ≡ sourceConstants constants w ⌝ }
+pub(crate) fn source_constants(s: Site) -> bool
+    ensures { λ r. ⌜ r ≡ sourceConstants s ⌝ }
 {
-    let x = bytes_of(w);
+    let x = bytes_of(s.word);
     let left = has_flag(x.flags, 1);
     let right = has_flag(x.flags, 2);
-    (!left | (x.b < constants)) & (!right | (x.c < constants))
+    (!left | (x.b < s.limits.constants)) & (!right | (x.c < s.limits.constants))
 }

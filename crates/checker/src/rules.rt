@@ -3,14 +3,14 @@
 use crate::Binary;
 use crate::Compare;
 use crate::Instruction;
-use crate::Limits;
+use crate::Site;
 use crate::Unary;
 use crate::next;
 use crate::operands;
 ghost use mathlib.Core.Path.{_≡_};
 ghost use Prim.Native.Nat.{_+_};
 ghost use lib.Dec.{eqb};
-ghost use Rattle.image.specs.Hex.{pick};
+ghost use mathlib.Core.Bool.{cond};
 ghost use Rattle.image.specs.Instruction.{aOf, bOf, cOf};
 ghost use Rattle.checker.specs.Operations.{copies, loadsConstant, loadsBool, loadsNil, calls, returns, jumps, tests, testsAndSets, closes, prepares, loops, compares, combines, bcOf};
 ghost use Rattle.checker.specs.Rules.{lowest};
@@ -50,11 +50,12 @@ fn judge(
     i
 }
 
-pub(crate) fn decode_copies(u: Unary, l: Limits, p: usize, w: u64) -> Instruction
-    ensures { λ r. ⌜ r ≡ decodeAs copies l p w (Instruction.Unary u (aOf w) (bOf w)) ⌝ }
+pub(crate) fn decode_copies(u: Unary, s: Site) -> Instruction
+    ensures { λ r. ⌜ r ≡ decodeAs copies s (Instruction.Unary u (aOf (s .word)) (bOf (s .word))) ⌝ }
 {
-    let x = operands::bytes_of(w);
-    let next = next::next_inside(p, l.instructions);
+    let l = s.limits;
+    let x = operands::bytes_of(s.word);
+    let next = next::next_inside(s);
     let tidy = (x.flags == 0) & (x.c == 0);
     let registers = (x.a < l.registers) & (x.b < l.registers);
     judge(
@@ -68,12 +69,13 @@ pub(crate) fn decode_copies(u: Unary, l: Limits, p: usize, w: u64) -> Instructio
     )
 }
 
-pub(crate) fn decode_load_constant(l: Limits, p: usize, w: u64) -> Instruction
-    ensures { λ r. ⌜ r ≡ decodeAs loadsConstant l p w (Instruction.LoadConstant (aOf w) (bcOf w)) ⌝ }
+pub(crate) fn decode_load_constant(s: Site) -> Instruction
+    ensures { λ r. ⌜ r ≡ decodeAs loadsConstant s (Instruction.LoadConstant (aOf (s .word)) (bcOf (s .word))) ⌝ }
 {
-    let x = operands::bytes_of(w);
-    let bc = operands::bc_of(w);
-    let next = next::next_inside(p, l.instructions);
+    let l = s.limits;
+    let x = operands::bytes_of(s.word);
+    let bc = operands::bc_of(s.word);
+    let next = next::next_inside(s);
     judge(
         true,
         x.flags == 0,
@@ -85,11 +87,12 @@ pub(crate) fn decode_load_constant(l: Limits, p: usize, w: u64) -> Instruction
     )
 }
 
-pub(crate) fn decode_load_bool(l: Limits, p: usize, w: u64) -> Instruction
-    ensures { λ r. ⌜ r ≡ decodeAs loadsBool l p w (Instruction.LoadBool (aOf w) (eqb (bOf w) 1) (pick (eqb (cOf w) 0) (p + 1) (p + 2))) ⌝ }
+pub(crate) fn decode_load_bool(s: Site) -> Instruction
+    ensures { λ r. ⌜ r ≡ decodeAs loadsBool s (Instruction.LoadBool (aOf (s .word)) (eqb (bOf (s .word)) 1) (cond (eqb (cOf (s .word)) 0) (s .place + 1) (s .place + 2))) ⌝ }
 {
-    let x = operands::bytes_of(w);
-    let next = next::next_or_skip(p, x.c == 0, l.instructions);
+    let l = s.limits;
+    let x = operands::bytes_of(s.word);
+    let next = next::next_or_skip(s, x.c == 0);
     let tidy = (x.flags == 0) & (x.b <= 1) & (x.c <= 1);
     judge(
         true,
@@ -102,11 +105,12 @@ pub(crate) fn decode_load_bool(l: Limits, p: usize, w: u64) -> Instruction
     )
 }
 
-pub(crate) fn decode_load_nil(l: Limits, p: usize, w: u64) -> Instruction
-    ensures { λ r. ⌜ r ≡ decodeAs loadsNil l p w (Instruction.LoadNil (aOf w) (bOf w)) ⌝ }
+pub(crate) fn decode_load_nil(s: Site) -> Instruction
+    ensures { λ r. ⌜ r ≡ decodeAs loadsNil s (Instruction.LoadNil (aOf (s .word)) (bOf (s .word))) ⌝ }
 {
-    let x = operands::bytes_of(w);
-    let next = next::next_inside(p, l.instructions);
+    let l = s.limits;
+    let x = operands::bytes_of(s.word);
+    let next = next::next_inside(s);
     let tidy = (x.flags == 0) & (x.c == 0);
     judge(
         true,
@@ -119,11 +123,12 @@ pub(crate) fn decode_load_nil(l: Limits, p: usize, w: u64) -> Instruction
     )
 }
 
-pub(crate) fn decode_call(l: Limits, p: usize, w: u64) -> Instruction
-    ensures { λ r. ⌜ r ≡ decodeAs calls l p w (Instruction.Call (aOf w) (bOf w) (cOf w)) ⌝ }
+pub(crate) fn decode_call(s: Site) -> Instruction
+    ensures { λ r. ⌜ r ≡ decodeAs calls s (Instruction.Call (aOf (s .word)) (bOf (s .word)) (cOf (s .word))) ⌝ }
 {
-    let x = operands::bytes_of(w);
-    let next = next::next_inside(p, l.instructions);
+    let l = s.limits;
+    let x = operands::bytes_of(s.word);
+    let next = next::next_inside(s);
     let carried = (x.b != 255) & (x.c != 255);
     let registers = (x.a + 1 + x.b <= l.registers) & (x.a + x.c <= l.registers);
     judge(
@@ -137,10 +142,11 @@ pub(crate) fn decode_call(l: Limits, p: usize, w: u64) -> Instruction
     )
 }
 
-pub(crate) fn decode_return(l: Limits, p: usize, w: u64) -> Instruction
-    ensures { λ r. ⌜ r ≡ decodeAs returns l p w (Instruction.Return (aOf w) (bOf w)) ⌝ }
+pub(crate) fn decode_return(s: Site) -> Instruction
+    ensures { λ r. ⌜ r ≡ decodeAs returns s (Instruction.Return (aOf (s .word)) (bOf (s .word))) ⌝ }
 {
-    let x = operands::bytes_of(w);
+    let l = s.limits;
+    let x = operands::bytes_of(s.word);
     let tidy = (x.flags == 0) & (x.c == 0);
     judge(
         x.b != 255,
@@ -153,11 +159,11 @@ pub(crate) fn decode_return(l: Limits, p: usize, w: u64) -> Instruction
     )
 }
 
-pub(crate) fn decode_jump(l: Limits, p: usize, w: u64) -> Instruction
-    ensures { λ r. ⌜ r ≡ decodeAs jumps l p w (Instruction.Jump (placeOf p w)) ⌝ }
+pub(crate) fn decode_jump(s: Site) -> Instruction
+    ensures { λ r. ⌜ r ≡ decodeAs jumps s (Instruction.Jump (placeOf (s .place) (s .word))) ⌝ }
 {
-    let x = operands::bytes_of(w);
-    let to = next::target_of(p, w, l.instructions);
+    let x = operands::bytes_of(s.word);
+    let to = next::target_of(s);
     judge(
         x.a == 255,
         x.flags == 0,
@@ -169,11 +175,12 @@ pub(crate) fn decode_jump(l: Limits, p: usize, w: u64) -> Instruction
     )
 }
 
-pub(crate) fn decode_test(l: Limits, p: usize, w: u64) -> Instruction
-    ensures { λ r. ⌜ r ≡ decodeAs tests l p w (Instruction.Test (aOf w) (eqb (bOf w) 1)) ⌝ }
+pub(crate) fn decode_test(s: Site) -> Instruction
+    ensures { λ r. ⌜ r ≡ decodeAs tests s (Instruction.Test (aOf (s .word)) (eqb (bOf (s .word)) 1)) ⌝ }
 {
-    let x = operands::bytes_of(w);
-    let next = next::skip_inside(p, l.instructions);
+    let l = s.limits;
+    let x = operands::bytes_of(s.word);
+    let next = next::skip_inside(s);
     let tidy = (x.flags == 0) & (x.b <= 1) & (x.c == 0);
     judge(
         true,
@@ -186,11 +193,12 @@ pub(crate) fn decode_test(l: Limits, p: usize, w: u64) -> Instruction
     )
 }
 
-pub(crate) fn decode_test_set(l: Limits, p: usize, w: u64) -> Instruction
-    ensures { λ r. ⌜ r ≡ decodeAs testsAndSets l p w (Instruction.TestSet (aOf w) (bOf w) (eqb (cOf w) 1)) ⌝ }
+pub(crate) fn decode_test_set(s: Site) -> Instruction
+    ensures { λ r. ⌜ r ≡ decodeAs testsAndSets s (Instruction.TestSet (aOf (s .word)) (bOf (s .word)) (eqb (cOf (s .word)) 1)) ⌝ }
 {
-    let x = operands::bytes_of(w);
-    let next = next::skip_inside(p, l.instructions);
+    let l = s.limits;
+    let x = operands::bytes_of(s.word);
+    let next = next::skip_inside(s);
     let tidy = (x.flags == 0) & (x.c <= 1);
     let registers = (x.a < l.registers) & (x.b < l.registers);
     judge(
@@ -204,11 +212,12 @@ pub(crate) fn decode_test_set(l: Limits, p: usize, w: u64) -> Instruction
     )
 }
 
-pub(crate) fn decode_closure(l: Limits, p: usize, w: u64) -> Instruction
-    ensures { λ r. ⌜ r ≡ decodeAs closes l p w (Instruction.Closure (aOf w) (bOf w)) ⌝ }
+pub(crate) fn decode_closure(s: Site) -> Instruction
+    ensures { λ r. ⌜ r ≡ decodeAs closes s (Instruction.Closure (aOf (s .word)) (bOf (s .word))) ⌝ }
 {
-    let x = operands::bytes_of(w);
-    let next = next::next_inside(p, l.instructions);
+    let l = s.limits;
+    let x = operands::bytes_of(s.word);
+    let next = next::next_inside(s);
     let tidy = (x.flags == 0) & (x.c == 0);
     judge(
         true,
@@ -221,11 +230,12 @@ pub(crate) fn decode_closure(l: Limits, p: usize, w: u64) -> Instruction
     )
 }
 
-pub(crate) fn decode_prep(l: Limits, p: usize, w: u64) -> Instruction
-    ensures { λ r. ⌜ r ≡ decodeAs prepares l p w (Instruction.NumericForPrep (aOf w) (placeOf p w)) ⌝ }
+pub(crate) fn decode_prep(s: Site) -> Instruction
+    ensures { λ r. ⌜ r ≡ decodeAs prepares s (Instruction.NumericForPrep (aOf (s .word)) (placeOf (s .place) (s .word))) ⌝ }
 {
-    let x = operands::bytes_of(w);
-    let to = next::target_of(p, w, l.instructions);
+    let l = s.limits;
+    let x = operands::bytes_of(s.word);
+    let to = next::target_of(s);
     judge(
         true,
         x.flags == 0,
@@ -237,12 +247,13 @@ pub(crate) fn decode_prep(l: Limits, p: usize, w: u64) -> Instruction
     )
 }
 
-pub(crate) fn decode_loop(l: Limits, p: usize, w: u64) -> Instruction
-    ensures { λ r. ⌜ r ≡ decodeAs loops l p w (Instruction.NumericForLoop (aOf w) (placeOf p w)) ⌝ }
+pub(crate) fn decode_loop(s: Site) -> Instruction
+    ensures { λ r. ⌜ r ≡ decodeAs loops s (Instruction.NumericForLoop (aOf (s .word)) (placeOf (s .place) (s .word))) ⌝ }
 {
-    let x = operands::bytes_of(w);
-    let next = next::ahead(p, 1, l.instructions);
-    let to = next::target_of(p, w, l.instructions);
+    let l = s.limits;
+    let x = operands::bytes_of(s.word);
+    let next = next::ahead(s.place, 1, l.instructions);
+    let to = next::target_of(s);
     judge(
         true,
         x.flags == 0,
@@ -254,25 +265,36 @@ pub(crate) fn decode_loop(l: Limits, p: usize, w: u64) -> Instruction
     )
 }
 
-pub(crate) fn decode_compares(o: Compare, l: Limits, p: usize, w: u64) -> Instruction
-    ensures { λ r. ⌜ r ≡ decodeAs compares l p w (Instruction.Compare o (eqb (aOf w) 1) (leftOf w) (rightOf w)) ⌝ }
+pub(crate) fn decode_compares(o: Compare, s: Site) -> Instruction
+    ensures { λ r. ⌜ r ≡ decodeAs compares s (Instruction.Compare o (eqb (aOf (s .word)) 1) (leftOf (s .word)) (rightOf (s .word))) ⌝ }
 {
-    let x = operands::bytes_of(w);
-    let next = next::skip_inside(p, l.instructions);
+    let x = operands::bytes_of(s.word);
+    let next = next::skip_inside(s);
     let tidy = (x.flags <= 3) & (x.a <= 1);
-    let registers = operands::sources_in(l.registers, w);
-    let constants = operands::source_constants(l.constants, w);
-    let i = Instruction::Compare(o, x.a == 1, operands::left_of(w), operands::right_of(w));
+    let registers = operands::sources_in(s);
+    let constants = operands::source_constants(s);
+    let i = Instruction::Compare(
+        o,
+        x.a == 1,
+        operands::left_of(s.word),
+        operands::right_of(s.word),
+    );
     judge(true, tidy, registers, constants, next, true, i)
 }
 
-pub(crate) fn decode_combines(o: Binary, l: Limits, p: usize, w: u64) -> Instruction
-    ensures { λ r. ⌜ r ≡ decodeAs combines l p w (Instruction.Binary o (aOf w) (leftOf w) (rightOf w)) ⌝ }
+pub(crate) fn decode_combines(o: Binary, s: Site) -> Instruction
+    ensures { λ r. ⌜ r ≡ decodeAs combines s (Instruction.Binary o (aOf (s .word)) (leftOf (s .word)) (rightOf (s .word))) ⌝ }
 {
-    let x = operands::bytes_of(w);
-    let next = next::next_inside(p, l.instructions);
-    let registers = (x.a < l.registers) & operands::sources_in(l.registers, w);
-    let constants = operands::source_constants(l.constants, w);
-    let i = Instruction::Binary(o, x.a, operands::left_of(w), operands::right_of(w));
+    let l = s.limits;
+    let x = operands::bytes_of(s.word);
+    let next = next::next_inside(s);
+    let registers = (x.a < l.registers) & operands::sources_in(s);
+    let constants = operands::source_constants(s);
+    let i = Instruction::Binary(
+        o,
+        x.a,
+        operands::left_of(s.word),
+        operands::right_of(s.word),
+    );
     judge(true, x.flags <= 3, registers, constants, next, true, i)
 }

@@ -1,6 +1,6 @@
 // Replays outside cases of the checker: images, changes of the storage that they are read to, and how much of it is
 // lent, on standard input. For each case it writes the answer's number, the prototype and the instruction.
-// tools/checks/cases.py makes the list, and by a checker of its own what must be written.
+// tools/checks/cases.py makes the list, and by tools/oracle what must be written.
 //
 // A line of the list is one of
 //   # words                     a case's name, written as it is
@@ -101,11 +101,11 @@ fn check(
 
 // A case: the lines of its image and of its changes, read into slices that are one cell longer than published.
 fn run(s: &[u8], line: &[u8]) {
-    let mut table = [0u64; 134];
-    let mut code = [0u64; 5042];
-    let mut const_kinds = [0u8; 8449];
-    let mut const_words = [0u64; 8449];
-    let mut texts = [0u8; 32769];
+    let mut table = [0u64; storage::TABLE + 1];
+    let mut code = [0u64; storage::CODE + 1];
+    let mut const_kinds = [0u8; storage::CONSTANTS + 1];
+    let mut const_words = [0u64; storage::CONSTANTS + 1];
+    let mut texts = [0u8; storage::TEXTS + 1];
     let n = lists::find(s, 0, b'=');
     let r = reader::read(
         &s[..n],

@@ -1,18 +1,17 @@
 -- What the bytes that were worked out say. Assumes nothing.
 use Prim.Native.Nat.{ℕ, _/_, _%_, _≤_}
 use native.Mathlib.Omega.{arith}
-use mathlib.Core.Bool.{Bool, true, false}
+use mathlib.Core.Bool.{Bool, true, false, cond}
 use mathlib.Core.Path.{_≡_, ap}
 use mathlib.Core.List.{List, [], _∷_, _++_, append-nil}
 use lib.ListN.{length, drop, length-append}
 use lib.Dec.{leb}
 use borrow.Author.Tests.{ne-eqb}
-use Rattle.image.specs.Hex.{pick}
 use Rattle.image.specs.Frames.{payload}
 use Rattle.image.specs.Write.{wordBytes, frameBytes}
 use Rattle.storage.specs.Layout.{laid}
 use Rattle.writer.specs.Writing.{lineOf, Lined}
-use Rattle.vm.specs.declared.Outcome.{Outcome}
+use Rattle.step.specs.declared.Outcome.{Outcome}
 use Rattle.deletion.specs.Lines.{answerBytes, valueBytes}
 
 -- the line of the same bytes
@@ -21,7 +20,7 @@ lined-as e p = rw e at p
 
 -- it ends within the output
 by-test :
-    (b : Bool) (line out out' : List ℕ) (r : ℕ) → r ≡ pick b (length line) 0 → out' ≡ pick b (laid line out) out → r ≤ length out'
+    (b : Bool) (line out out' : List ℕ) (r : ℕ) → r ≡ cond b (length line) 0 → out' ≡ cond b (laid line out) out → r ≤ length out'
 by-test true line out out' r e f = omega (arith, ap length f, length-append line (drop (length line) out))
 by-test false line out out' r e f = omega arith
 

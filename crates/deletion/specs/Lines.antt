@@ -3,10 +3,10 @@
 use Prim.Native.Nat.{ℕ}
 use mathlib.Core.List.{List, [], _∷_}
 use lib.Dec.{eqb}
-use Rattle.image.specs.Hex.{pick}
+use mathlib.Core.Bool.{cond}
 use Rattle.image.specs.Frames.{const, str}
 use Rattle.image.specs.Write.{wordBytes, frameBytes}
-use Rattle.vm.specs.declared.Outcome.{Outcome}
+use Rattle.step.specs.declared.Outcome.{Outcome}
 
 unfoldable pub answerBytes : Outcome → List ℕ
 answerBytes o = 0xf0 ∷ o .number ∷ wordBytes 4 (o .count) (wordBytes 1 (o .prototype) (wordBytes 2 (o .instruction) []))
@@ -14,4 +14,4 @@ answerBytes o = 0xf0 ∷ o .number ∷ wordBytes 4 (o .count) (wordBytes 1 (o .p
 -- of a kind and a word, as a register holds them; `text` is what a string says
 unfoldable pub valueBytes : ℕ → ℕ → List ℕ → List ℕ
 valueBytes kind word text =
-    pick (eqb kind 4) (frameBytes (str text)) (pick (eqb kind 5) (0xb0 ∷ 5 ∷ wordBytes 1 word []) (frameBytes (const kind word)))
+    cond (eqb kind 4) (frameBytes (str text)) (cond (eqb kind 5) (0xb0 ∷ 5 ∷ wordBytes 1 word []) (frameBytes (const kind word)))

@@ -1,5 +1,5 @@
 // The lines that the program writes, each at the front of an output.
-use vm::Outcome;
+use step::Outcome;
 ghost use mathlib.Core.Path.{_≡_};
 ghost use mathlib.Core.List.{[], _∷_};
 ghost use Prim.Native.Nat.{_%_};

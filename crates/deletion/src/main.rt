@@ -4,7 +4,7 @@ mod lines;
 
 use checker::Checked;
 use image::Judged;
-use vm::Outcome;
+use step::Outcome;
 
 const BUDGET: u32 = 1_000_000;
 
@@ -51,9 +51,9 @@ fn write_values(
 
 // Starts the image that was read, runs it, and writes what it answers.
 fn play(table: &[u64], code: &[u64], const_kinds: &[u8], const_words: &[u64], texts: &[u8]) {
-    let mut frames = [0u64; 34];
-    let mut kinds = [0u8; 2308];
-    let mut words = [0u64; 2308];
+    let mut frames = [0u64; state::FRAMES];
+    let mut kinds = [0u8; state::REGISTERS];
+    let mut words = [0u64; state::REGISTERS];
     let no_kinds = [0u8; 0];
     let no_words = [0u64; 0];
     let c = machine::start(
@@ -103,11 +103,11 @@ fn play(table: &[u64], code: &[u64], const_kinds: &[u8], const_words: &[u64], te
 fn main() {
     // A byte more than an image may have, so that a longer one is seen to be.
     let mut image = [0u8; 65537];
-    let mut table = [0u64; 133];
-    let mut code = [0u64; 5041];
-    let mut const_kinds = [0u8; 8448];
-    let mut const_words = [0u64; 8448];
-    let mut texts = [0u8; 32768];
+    let mut table = [0u64; storage::TABLE];
+    let mut code = [0u64; storage::CODE];
+    let mut const_kinds = [0u8; storage::CONSTANTS];
+    let mut const_words = [0u64; storage::CONSTANTS];
+    let mut texts = [0u8; storage::TEXTS];
     let n = io::read_full(0, &mut image);
     let j = machine::read(
         &image[..n],

@@ -1,3 +1,3 @@
 -- The laws behind the test of fitness.
-pub mod Tests
 pub mod Parts
+pub mod Facts

@@ -1,2 +1,3 @@
 -- When a machine's state is fit to run.
 pub mod Fit
+pub mod Facts

@@ -1,33 +1,17 @@
 // Whether a state is fit to run, for any contents of the lent slices: document 01's list, test by test.
+use checker::Class;
 use checker::Instruction;
 use storage::Validity;
 ghost use mathlib.Core.Path.{_≡_};
 ghost use Prim.Native.Nat.{_≤_};
-ghost use Rattle.storage.specs.Layout.{storage};
+ghost use Rattle.storage.specs.Layout.{storageIn};
 ghost use Rattle.storage.specs.Stored.{readsBack};
-ghost use Rattle.activation.specs.Frames.{depthIn, baseOf};
-ghost use Rattle.fitness.specs.Fit.{state, allBelow, stateLong, markFits, decodedAt, isCall, isReturn, thereIn, beforeIn, waitsIn, stackFits, endFits, valueFits, registerFits, valuesFit, fitOf};
-
-// The published size of `kinds` and `words`: 2,048 registers, and room behind the last window.
-pub const REGISTERS: usize = 2308;
+ghost use Rattle.state.specs.Frames.{depthIn, baseOf};
+ghost use Rattle.fitness.specs.Fit.{markFits, decodedAt, isCall, isReturn, thereIn, beforeIn, waitsIn, stackFits, endFits, valueFits, registerFits, valuesFit, fitOf};
+ghost use Rattle.choices.specs.Below.{allBelow};
+ghost use Rattle.state.specs.States.{stateIn};
 
 // ---- 5 and 6
-
-// Whether the state's slices are long enough.
-pub fn is_state_long(frames: &[u64], kinds: &[u8], words: &[u64]) -> bool
-    ensures { λ r. ⌜ r ≡ stateLong (state (now (frames .entry)) (now (kinds .entry)) (now (words .entry))) ⌝ }
-{
-    if frames.len() < activation::FRAMES {
-        return false;
-    }
-    if kinds.len() < REGISTERS {
-        return false;
-    }
-    if words.len() < REGISTERS {
-        return false;
-    }
-    true
-}
 
 fn reads_back(
     table: &[u64],
@@ -36,7 +20,7 @@ fn reads_back(
     const_words: &[u64],
     texts: &[u8],
 ) -> bool
-    ensures { λ r. ⌜ r ≡ readsBack (storage (now (table .entry)) (now (code .entry)) (now («const_kinds» .entry)) (now («const_words» .entry)) (now (texts .entry))) ⌝ }
+    ensures { λ r. ⌜ r ≡ readsBack (storageIn table code «const_kinds» «const_words» texts) ⌝ }
 {
     match storage::valid(table, code, const_kinds, const_words, texts) {
         Validity::Bytes(_) => true,
@@ -50,7 +34,7 @@ fn reads_back(
 fn mark_fits(m: u64) -> bool
     ensures { λ r. ⌜ r ≡ markFits m ⌝ }
 {
-    (m == 70) | (m == 0) | ((30 <= m) & (m <= 44)) | ((50 <= m) & (m <= 52))
+    (m == 70) | (m == 0) | state::is_lua_error(m)
 }
 
 // ---- instructions of activations
@@ -62,52 +46,26 @@ pub fn decoded(table: &[u64], code: &[u64], q: usize, p: usize) -> Instruction
     if storage::instructions(table, q) <= p {
         return Instruction::Bad(14);
     }
-    let l = checker::limits_of(table, q);
-    let w = storage::instruction(table, code, q, p);
-    checker::decode(l, p, w)
+    checker::decode(checker::site_of(table, code, q, p))
 }
 
-fn is_call(i: Instruction) -> bool
-    ensures { λ r. ⌜ r ≡ isCall i ⌝ }
+fn is_call(c: Class) -> bool
+    ensures { λ r. ⌜ r ≡ isCall c ⌝ }
 {
-    match i {
-        Instruction::Unary(_, _, _) => false,
-        Instruction::LoadConstant(_, _) => false,
-        Instruction::LoadBool(_, _, _) => false,
-        Instruction::LoadNil(_, _) => false,
-        Instruction::Call(_, _, _) => true,
-        Instruction::Return(_, _) => false,
-        Instruction::Jump(_) => false,
-        Instruction::Test(_, _) => false,
-        Instruction::TestSet(_, _, _) => false,
-        Instruction::Closure(_, _) => false,
-        Instruction::NumericForPrep(_, _) => false,
-        Instruction::NumericForLoop(_, _) => false,
-        Instruction::Compare(_, _, _, _) => false,
-        Instruction::Binary(_, _, _, _) => false,
-        Instruction::Bad(_) => false,
+    match c {
+        Class::Calls(_, _) => true,
+        Class::Returns(_, _) => false,
+        Class::Other => false,
     }
 }
 
-fn is_return(i: Instruction) -> bool
-    ensures { λ r. ⌜ r ≡ isReturn i ⌝ }
+fn is_return(c: Class) -> bool
+    ensures { λ r. ⌜ r ≡ isReturn c ⌝ }
 {
-    match i {
-        Instruction::Unary(_, _, _) => false,
-        Instruction::LoadConstant(_, _) => false,
-        Instruction::LoadBool(_, _, _) => false,
-        Instruction::LoadNil(_, _) => false,
-        Instruction::Call(_, _, _) => false,
-        Instruction::Return(_, _) => true,
-        Instruction::Jump(_) => false,
-        Instruction::Test(_, _) => false,
-        Instruction::TestSet(_, _, _) => false,
-        Instruction::Closure(_, _) => false,
-        Instruction::NumericForPrep(_, _) => false,
-        Instruction::NumericForLoop(_, _) => false,
-        Instruction::Compare(_, _, _, _) => false,
-        Instruction::Binary(_, _, _, _) => false,
-        Instruction::Bad(_) => false,
+    match c {
+        Class::Calls(_, _) => false,
+        Class::Returns(_, _) => true,
+        Class::Other => false,
     }
 }
 
@@ -117,8 +75,8 @@ fn is_return(i: Instruction) -> bool
 fn is_there(table: &[u64], frames: &[u64], i: usize) -> bool
     ensures { λ r. ⌜ r ≡ thereIn (now (table .entry)) (now (frames .entry)) i ⌝ }
 {
-    let q = activation::prototype_of(frames, i);
-    let p = activation::instruction_of(frames, i);
+    let q = state::prototype_of(frames, i);
+    let p = state::instruction_of(frames, i);
     (q < storage::prototypes(table)) & (p < storage::instructions(table, q))
 }
 
@@ -126,11 +84,11 @@ fn is_there(table: &[u64], frames: &[u64], i: usize) -> bool
 pub fn instruction_before(table: &[u64], code: &[u64], frames: &[u64], i: usize) -> Instruction
     ensures { λ r. ⌜ r ≡ beforeIn (now (table .entry)) (now (code .entry)) (now (frames .entry)) i ⌝ }
 {
-    let p = activation::instruction_of(frames, i);
+    let p = state::instruction_of(frames, i);
     if p == 0 {
         return Instruction::Bad(14);
     }
-    let q = activation::prototype_of(frames, i);
+    let q = state::prototype_of(frames, i);
     decoded(table, code, q, p - 1)
 }
 
@@ -138,7 +96,7 @@ pub fn instruction_before(table: &[u64], code: &[u64], frames: &[u64], i: usize)
 fn waits(table: &[u64], code: &[u64], frames: &[u64], i: usize) -> bool
     ensures { λ r. ⌜ r ≡ waitsIn (now (table .entry)) (now (code .entry)) (now (frames .entry)) i ⌝ }
 {
-    is_call(instruction_before(table, code, frames, i))
+    is_call(checker::class_of(instruction_before(table, code, frames, i)))
 }
 
 fn all_there(table: &[u64], frames: &[u64], n: usize) -> bool
@@ -170,14 +128,14 @@ fn all_wait(table: &[u64], code: &[u64], frames: &[u64], n: usize) -> bool
 fn stack_fits(table: &[u64], code: &[u64], frames: &[u64]) -> bool
     ensures { λ r. ⌜ r ≡ stackFits (now (table .entry)) (now (code .entry)) (now (frames .entry)) ⌝ }
 {
-    let depth = activation::depth(frames);
+    let depth = state::depth(frames);
     if depth < 1 {
         return false;
     }
     if 16 < depth {
         return false;
     }
-    if 2048 < activation::base_of(table, frames, depth) {
+    if 2048 < state::base_of(table, frames, depth) {
         return false;
     }
     if !all_there(table, frames, depth) {
@@ -190,15 +148,15 @@ fn stack_fits(table: &[u64], code: &[u64], frames: &[u64]) -> bool
 fn end_fits(table: &[u64], code: &[u64], frames: &[u64]) -> bool
     ensures { λ r. ⌜ r ≡ endFits (now (table .entry)) (now (code .entry)) (now (frames .entry)) ⌝ }
 {
-    if activation::mark(frames) != 0 {
+    if state::mark(frames) != 0 {
         return true;
     }
-    if activation::depth(frames) != 1 {
+    if state::depth(frames) != 1 {
         return false;
     }
-    let q = activation::prototype_of(frames, 0);
-    let p = activation::instruction_of(frames, 0);
-    is_return(decoded(table, code, q, p))
+    let q = state::prototype_of(frames, 0);
+    let p = state::instruction_of(frames, 0);
+    is_return(checker::class_of(decoded(table, code, q, p)))
 }
 
 // ---- the live registers
@@ -252,10 +210,10 @@ fn values_fit(
     words: &[u64],
 ) -> bool
     requires { ⌜ baseOf (now table) (now frames) (depthIn (now frames)) ≤ 2048 ⌝ }
-    ensures { λ r. ⌜ r ≡ valuesFit (now (table .entry)) (now («const_kinds» .entry)) (state (now (frames .entry)) (now (kinds .entry)) (now (words .entry))) ⌝ }
+    ensures { λ r. ⌜ r ≡ valuesFit (now (table .entry)) (now («const_kinds» .entry)) (stateIn frames kinds words) ⌝ }
 {
-    let depth = activation::depth(frames);
-    let end = activation::base_of(table, frames, depth);
+    let depth = state::depth(frames);
+    let end = state::base_of(table, frames, depth);
     all_fit(table, const_kinds, kinds, words, end)
 }
 
@@ -271,18 +229,18 @@ pub fn fit(
     kinds: &[u8],
     words: &[u64],
 ) -> bool
-    ensures { λ r. ⌜ r ≡ fitOf (storage (now (table .entry)) (now (code .entry)) (now («const_kinds» .entry)) (now («const_words» .entry)) (now (texts .entry))) (state (now (frames .entry)) (now (kinds .entry)) (now (words .entry))) ⌝ }
+    ensures { λ r. ⌜ r ≡ fitOf (storageIn table code «const_kinds» «const_words» texts) (stateIn frames kinds words) ⌝ }
 {
     if !storage::is_long_enough(table, code, const_kinds, const_words, texts) {
         return false;
     }
-    if !is_state_long(frames, kinds, words) {
+    if !state::is_long_enough(frames, kinds, words) {
         return false;
     }
     if !reads_back(table, code, const_kinds, const_words, texts) {
         return false;
     }
-    if !mark_fits(activation::mark(frames)) {
+    if !mark_fits(state::mark(frames)) {
         return false;
     }
     if !stack_fits(table, code, frames) {

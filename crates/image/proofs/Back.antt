@@ -10,7 +10,7 @@ use Rattle.image.specs.Lines.{ended, onto, lines}
 use Rattle.image.specs.Instruction.{operationOf, flagsOf, aOf, bOf, cOf}
 use Rattle.image.specs.Frames.{F, opens, const, str, code, ends, bad, payload, mostOf, wordBytesOf, frameOf, kindBytes, openBytes, constBytes, codeBytes, endBytes, lineFrame, framesOf}
 use Rattle.image.specs.Write.{hexOf, wordBytes, frameBytes, written}
-use Rattle.image.proofs.Cases.{by-bool}
+use Rattle.choices.proofs.Choices.{by-bool}
 use Rattle.image.proofs.HexLaws.{AllBytes, bytes-nil, bytes-cons, hex-no-lf, hex-paired, hex-bytes, word-is, word-all, word-length}
 use Rattle.image.proofs.Packing.{packed-fields}
 use Rattle.image.proofs.Said.{Said, AllSaid, more}

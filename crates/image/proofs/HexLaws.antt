@@ -12,7 +12,7 @@ use lib.Dec.{eqb}
 use borrow.Author.Tests.{ltb-true, le-leb, lt-leb, lt-ltb, le-ltb, ne-eqb}
 use Rattle.image.specs.Hex.{digitOf, paired, bytesOf, wordFrom}
 use Rattle.image.specs.Write.{hexDigit, hexOf, wordBytes}
-use Rattle.image.proofs.Cases.{split, pick-true}
+use Rattle.choices.proofs.Choices.{cond-true, by-order}
 
 -- ---- lists of bytes
 
@@ -35,10 +35,10 @@ bytes-drop n l h i = rw (getD-drop n l i 0) (h (n + i))
 pub digit-le : (b : ℕ) → digitOf b ≤ 16
 unfolding digitOf
 digit-le b =
-    split 48 b
-    (λ h. split b 57 (λ k. simp (le-leb _ _ h, le-leb _ _ k) (omega arith))
-    (λ k. split 97 b
-    (λ m. split b 102 (λ n. simp (le-leb _ _ h, lt-leb _ _ k, le-leb _ _ m, le-leb _ _ n) (omega arith))
+    by-order 48 b
+    (λ h. by-order b 57 (λ k. simp (le-leb _ _ h, le-leb _ _ k) (omega arith))
+    (λ k. by-order 97 b
+    (λ m. by-order b 102 (λ n. simp (le-leb _ _ h, lt-leb _ _ k, le-leb _ _ m, le-leb _ _ n) (omega arith))
     (λ n. simp (le-leb _ _ h, lt-leb _ _ k, le-leb _ _ m, lt-leb _ _ n) (omega arith)))
     (λ m. simp (le-leb _ _ h, lt-leb _ _ k, lt-leb _ _ m) (omega arith))))
     (λ h. simp (lt-leb _ _ h) (omega arith))
@@ -46,11 +46,11 @@ digit-le b =
 digit-back : (b : ℕ) → digitOf b < 16 → hexDigit (digitOf b) ≡ b
 unfolding digitOf hexDigit
 digit-back b =
-    split 48 b
-    (λ h. split b 57
+    by-order 48 b
+    (λ h. by-order b 57
     (λ k. simp (le-leb _ _ h, le-leb _ _ k) (λ m. simp (lt-ltb (b - 48) 10 (omega arith)) (omega arith)))
-    (λ k. split 97 b
-    (λ g. split b 102
+    (λ k. by-order 97 b
+    (λ g. by-order b 102
     (λ n. simp (le-leb _ _ h, lt-leb _ _ k, le-leb _ _ g, le-leb _ _ n) (λ m. simp (le-ltb (b - 87) 10 (omega arith)) (omega arith)))
     (λ n. simp (le-leb _ _ h, lt-leb _ _ k, le-leb _ _ g, lt-leb _ _ n) (λ m. absurd (omega arith))))
     (λ g. simp (le-leb _ _ h, lt-leb _ _ k, lt-leb _ _ g) (λ m. absurd (omega arith)))))
@@ -59,7 +59,7 @@ digit-back b =
 hex-digit : (n : ℕ) → n < 16 → digitOf (hexDigit n) ≡ n
 unfolding digitOf hexDigit
 hex-digit n h =
-    split 10 n
+    by-order 10 n
     (λ k. simp (le-ltb n 10 k, le-leb 48 (87 + n) (omega arith), lt-leb (87 + n) 57 (omega arith), le-leb 97 (87 + n) (omega arith), le-leb (87 + n) 102 (omega arith)) (omega arith))
     (λ k. simp (lt-ltb n 10 k, le-leb 48 (48 + n) (omega arith), le-leb (48 + n) 57 (omega arith)) (omega arith))
 
@@ -67,7 +67,7 @@ hex-digit n h =
 pub hex-no-lf : (n : ℕ) → eqb (hexDigit n) 10 ≡ false
 unfolding hexDigit
 hex-no-lf n =
-    split 10 n (λ k. simp (le-ltb n 10 k, ne-eqb (87 + n) 10 (omega arith)))
+    by-order 10 n (λ k. simp (le-ltb n 10 k, ne-eqb (87 + n) 10 (omega arith)))
     (λ k. simp (lt-ltb n 10 k, ne-eqb (48 + n) 10 (omega arith)))
 
 -- ---- pairs
@@ -76,8 +76,8 @@ pub both-digits :
     (a b : ℕ) (l : List ℕ) → paired (a ∷ b ∷ l) ≡ true → (digitOf a < 16) × ((digitOf b < 16) × (paired l ≡ true))
 unfolding paired
 both-digits a b l h =
-    let p = pick-true _ _ h in
-    let q = pick-true _ _ (p .1) in
+    let p = cond-true _ _ h in
+    let q = cond-true _ _ (p .1) in
     (ltb-true _ _ (p .0), (ltb-true _ _ (q .0), q .1))
 
 odd-never : (a : ℕ) → paired (a ∷ []) ≡ true → ⊥

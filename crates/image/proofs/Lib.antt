@@ -1,5 +1,4 @@
 -- The pure round trip: image and frames, there and back.
-pub mod Cases
 pub mod HexLaws
 pub mod Packing
 pub mod Said

@@ -20,7 +20,7 @@ use Rattle.image.specs.declared.Step.{Step}
 use Rattle.image.specs.declared.Step.the-variants.{On, Done, No}
 use Rattle.image.specs.declared.Judged.{Judged}
 use Rattle.image.specs.declared.Judged.the-variants.{Accepted, Refused}
-use Rattle.image.proofs.Cases.{by-bool, pick-cases}
+use Rattle.choices.proofs.Choices.{by-bool, cond-cases}
 use Rattle.image.proofs.HexLaws.{AllBytes, bytes-drop, byte-lt, hex-back, word-bytes}
 use Rattle.image.proofs.Packing.{Packs, packed-back}
 use Rattle.image.proofs.Said.{Said, AllSaid, none, more}
@@ -54,9 +54,9 @@ module _ (B : List ℕ) (bytes : AllBytes B) where
   open-back : 0xa0 ≡ getD B 0 0 → Back (openBytes B)
   unfolding openBytes
   open-back k =
-      pick-cases Back (eqb (length B) 3) _ _
-      (λ h. pick-cases Back (leb 1 (getD B 1 0)) _ _
-      (λ t. pick-cases Back (leb (getD B 2 0) (getD B 1 0)) _ _
+      cond-cases Back (eqb (length B) 3) _ _
+      (λ h. cond-cases Back (leb 1 (getD B 1 0)) _ _
+      (λ t. cond-cases Back (leb (getD B 2 0) (getD B 1 0)) _ _
       (λ m e. (three (eqb-true _ _ h), (leb-true _ _ t, (omega (arith, bytes 1), leb-true _ _ m)))) (λ m. bad-back 2))
       (λ t. bad-back 2))
       (λ h. bad-back 2)
@@ -68,7 +68,7 @@ module _ (B : List ℕ) (bytes : AllBytes B) where
 
   end-back : 0xe0 ≡ getD B 0 0 → Back (endBytes B)
   unfolding endBytes
-  end-back k = pick-cases Back (eqb (length B) 2) _ _ (λ h e. (two (eqb-true _ _ h), bytes 1)) (λ h. bad-back 2)
+  end-back k = cond-cases Back (eqb (length B) 2) _ _ (λ h e. (two (eqb-true _ _ h), bytes 1)) (λ h. bad-back 2)
     where
       two : length B ≡ 2 → frameBytes (ends (getD B 1 0)) ≡ B
       two h = unfold frameBytes in
@@ -77,7 +77,7 @@ module _ (B : List ℕ) (bytes : AllBytes B) where
   code-back : 0xc0 ≡ getD B 0 0 → Back (codeBytes B)
   unfolding codeBytes
   code-back k =
-      pick-cases Back (eqb (length B) 6) _ _ (λ h e. (six (eqb-true _ _ h), fields .fits)) (λ h. bad-back 2)
+      cond-cases Back (eqb (length B) 6) _ _ (λ h e. (six (eqb-true _ _ h), fields .fits)) (λ h. bad-back 2)
     where
       w : ℕ
       w = packed (getD B 1 0) (getD B 2 0) (getD B 3 0) (getD B 4 0) (getD B 5 0)
@@ -96,8 +96,8 @@ module _ (B : List ℕ) (bytes : AllBytes B) where
   word-back : (tag : ℕ) → 2 ≤ length B → 0xb0 ≡ getD B 0 0 → tag ≡ getD B 1 0 → tag < 4 → Back (wordBytesOf tag (drop 2 B))
   unfolding wordBytesOf
   word-back tag h k t l =
-      pick-cases Back (eqb (length (drop 2 B)) (payload tag)) _ _
-      (λ m. pick-cases Back (leb (wordFrom 0 (drop 2 B)) (mostOf tag)) _ _
+      cond-cases Back (eqb (length (drop 2 B)) (payload tag)) _ _
+      (λ m. cond-cases Back (leb (wordFrom 0 (drop 2 B)) (mostOf tag)) _ _
       (λ n e. (some (eqb-true _ _ m), (l, leb-true _ _ n))) (λ n. bad-back 2))
       (λ m. bad-back 2)
     where
@@ -109,10 +109,10 @@ module _ (B : List ℕ) (bytes : AllBytes B) where
   const-back : 0xb0 ≡ getD B 0 0 → Back (constBytes B)
   unfolding constBytes
   const-back k =
-      pick-cases Back (leb 2 (length B)) _ _
-      (λ h. pick-cases Back (ltb (getD B 1 0) 4) _ _ (λ t. word-back (getD B 1 0) (leb-true _ _ h) k refl (ltb-true _ _ t))
-      (λ t. pick-cases Back (eqb (getD B 1 0) 4) _ _
-      (λ u. pick-cases Back (leb (length B) 66) _ _
+      cond-cases Back (leb 2 (length B)) _ _
+      (λ h. cond-cases Back (ltb (getD B 1 0) 4) _ _ (λ t. word-back (getD B 1 0) (leb-true _ _ h) k refl (ltb-true _ _ t))
+      (λ t. cond-cases Back (eqb (getD B 1 0) 4) _ _
+      (λ u. cond-cases Back (leb (length B) 66) _ _
       (λ m e. (text (leb-true _ _ h) (eqb-true _ _ u), (short (leb-true _ _ m), bytes-drop 2 B bytes))) (λ m. bad-back 2))
       (λ u. bad-back 2)))
       (λ h. bad-back 2)
@@ -127,17 +127,17 @@ module _ (B : List ℕ) (bytes : AllBytes B) where
   unfolding kindBytes
   kind-back =
       let k = getD B 0 0 in
-      pick-cases Back (eqb k 0xa0) _ _ (λ a. open-back (sym (eqb-true _ _ a)))
-      (λ a. pick-cases Back (eqb k 0xb0) _ _ (λ b. const-back (sym (eqb-true _ _ b)))
-      (λ b. pick-cases Back (eqb k 0xc0) _ _ (λ c. code-back (sym (eqb-true _ _ c)))
-      (λ c. pick-cases Back (eqb k 0xe0) _ _ (λ d. end-back (sym (eqb-true _ _ d))) (λ d. bad-back 2))))
+      cond-cases Back (eqb k 0xa0) _ _ (λ a. open-back (sym (eqb-true _ _ a)))
+      (λ a. cond-cases Back (eqb k 0xb0) _ _ (λ b. const-back (sym (eqb-true _ _ b)))
+      (λ b. cond-cases Back (eqb k 0xc0) _ _ (λ c. code-back (sym (eqb-true _ _ c)))
+      (λ c. cond-cases Back (eqb k 0xe0) _ _ (λ d. end-back (sym (eqb-true _ _ d))) (λ d. bad-back 2))))
 
 -- a line of which a frame was read is that frame's text
 line-back : (l : List ℕ) → good (frameOf l) ≡ true → (hexOf (frameBytes (frameOf l)) ≡ l) × Said (frameOf l)
 unfolding frameOf
 line-back l =
-    pick-cases Text (leb 1 (length l)) _ _
-    (λ h. pick-cases Text (paired l) _ _
+    cond-cases Text (leb 1 (length l)) _ _
+    (λ h. cond-cases Text (paired l) _ _
     (λ p e. let b = kind-back (bytesOf l) (byte-lt l p) e in (ap hexOf (b .0) ∙ hex-back l p, b .1)) (λ p. refused 1))
     (λ h. refused 1)
   where
@@ -218,7 +218,7 @@ judge-good (f ∷ fs) st n q e =
 trip : (s : List ℕ) (q : ℕ) → judgeOf s ≡ Accepted q → (written (framesOf s) ≡ s) × AllSaid (framesOf s)
 unfolding framesOf judgeOf
 trip s q =
-    pick-cases (λ (j : Judged). j ≡ Accepted q → (written (map lineFrame (lines s)) ≡ s) × AllSaid (map lineFrame (lines s))) (ltb 65536 (length s)) _ _
+    cond-cases (λ (j : Judged). j ≡ Accepted q → (written (map lineFrame (lines s)) ≡ s) × AllSaid (map lineFrame (lines s))) (ltb 65536 (length s)) _ _
     (λ h e. let z : _≡_ {A = ℕ} 0 1 = too-long e in absurd (omega arith))
     (λ h e. let r = written-lines (lines s) (judge-good (map lineFrame (lines s)) start 0 q e) in (r .0 ∙ joined-lines s, r .1))
   where

@@ -3,7 +3,8 @@ use Prim.Native.Nat.{ℕ}
 use mathlib.Core.List.{List, map}
 use lib.ListN.{length, getD, take, drop}
 use lib.Dec.{leb, ltb, eqb}
-use Rattle.image.specs.Hex.{pick, paired, bytesOf, wordFrom}
+use Rattle.image.specs.Hex.{paired, bytesOf, wordFrom}
+use mathlib.Core.Bool.{cond}
 use Rattle.image.specs.Lines.{Line, ended, unended, lines, lineLen}
 use Rattle.image.specs.Instruction.{packed}
 use Rattle.image.specs.declared.Frame.{Frame}
@@ -31,51 +32,51 @@ shape (bad k) = Bad k
 -- "`a0` registers (1 to 255), parameters (at most the registers): opens a prototype"
 unfoldable pub openBytes : List ℕ → F
 openBytes f =
-    pick (eqb (length f) 3)
-    (pick (leb 1 (getD f 1 0)) (pick (leb (getD f 2 0) (getD f 1 0)) (opens (getD f 1 0) (getD f 2 0)) (bad 2)) (bad 2))
+    cond (eqb (length f) 3)
+    (cond (leb 1 (getD f 1 0)) (cond (leb (getD f 2 0) (getD f 1 0)) (opens (getD f 1 0) (getD f 2 0)) (bad 2)) (bad 2))
     (bad 2)
 
 -- "`b0` tag and payload, a constant: 00 nil; 01 and 00 or 01; 02 and 8 bytes of integer; 03 and 8 bytes of float bits; 04 and 0 to 64 bytes of string"
 -- how many bytes of payload a tag below 4 has, and its largest word
 unfoldable pub payload : ℕ → ℕ
-payload tag = pick (eqb tag 0) 0 (pick (eqb tag 1) 1 8)
+payload tag = cond (eqb tag 0) 0 (cond (eqb tag 1) 1 8)
 
 unfoldable pub mostOf : ℕ → ℕ
-mostOf tag = pick (eqb tag 0) 0 (pick (eqb tag 1) 1 0xffff_ffff_ffff_ffff)
+mostOf tag = cond (eqb tag 0) 0 (cond (eqb tag 1) 1 0xffff_ffff_ffff_ffff)
 
 unfoldable pub wordBytesOf : ℕ → List ℕ → F
 wordBytesOf tag l =
-    pick (eqb (length l) (payload tag)) (pick (leb (wordFrom 0 l) (mostOf tag)) (const tag (wordFrom 0 l)) (bad 2))
+    cond (eqb (length l) (payload tag)) (cond (leb (wordFrom 0 l) (mostOf tag)) (const tag (wordFrom 0 l)) (bad 2))
     (bad 2)
 
 unfoldable pub constBytes : List ℕ → F
 constBytes f =
-    pick (leb 2 (length f))
-    (pick (ltb (getD f 1 0) 4) (wordBytesOf (getD f 1 0) (drop 2 f))
-    (pick (eqb (getD f 1 0) 4) (pick (leb (length f) 66) (str (drop 2 f)) (bad 2)) (bad 2)))
+    cond (leb 2 (length f))
+    (cond (ltb (getD f 1 0) 4) (wordBytesOf (getD f 1 0) (drop 2 f))
+    (cond (eqb (getD f 1 0) 4) (cond (leb (length f) 66) (str (drop 2 f)) (bad 2)) (bad 2)))
     (bad 2)
 
 -- "`c0` operation, flags, a, b, c, any bytes"
 unfoldable pub codeBytes : List ℕ → F
 codeBytes f =
-    pick (eqb (length f) 6) (code (packed (getD f 1 0) (getD f 2 0) (getD f 3 0) (getD f 4 0) (getD f 5 0)))
+    cond (eqb (length f) 6) (code (packed (getD f 1 0) (getD f 2 0) (getD f 3 0) (getD f 4 0) (getD f 5 0)))
     (bad 2)
 
 -- "`e0` number of prototypes: last"
 unfoldable pub endBytes : List ℕ → F
-endBytes f = pick (eqb (length f) 2) (ends (getD f 1 0)) (bad 2)
+endBytes f = cond (eqb (length f) 2) (ends (getD f 1 0)) (bad 2)
 
 -- "The first byte is the kind."
 unfoldable pub kindBytes : List ℕ → F
 kindBytes f =
-    pick (eqb (getD f 0 0) 0xa0) (openBytes f)
-    (pick (eqb (getD f 0 0) 0xb0) (constBytes f)
-    (pick (eqb (getD f 0 0) 0xc0) (codeBytes f)
-    (pick (eqb (getD f 0 0) 0xe0) (endBytes f) (bad 2))))
+    cond (eqb (getD f 0 0) 0xa0) (openBytes f)
+    (cond (eqb (getD f 0 0) 0xb0) (constBytes f)
+    (cond (eqb (getD f 0 0) 0xc0) (codeBytes f)
+    (cond (eqb (getD f 0 0) 0xe0) (endBytes f) (bad 2))))
 
 -- a line's text: 1 where "line is empty, not paired lowercase hex, or lacks LF"
 unfoldable pub frameOf : List ℕ → F
-frameOf l = pick (leb 1 (length l)) (pick (paired l) (kindBytes (bytesOf l)) (bad 1)) (bad 1)
+frameOf l = cond (leb 1 (length l)) (cond (paired l) (kindBytes (bytesOf l)) (bad 1)) (bad 1)
 
 unfoldable pub lineFrame : Line → F
 lineFrame (ended l) = frameOf l
@@ -86,4 +87,4 @@ framesOf s = map lineFrame (lines s)
 
 -- the first frame of what is left, read off by its length
 unfoldable pub firstFrame : List ℕ → F
-firstFrame s = pick (ltb (lineLen s) (length s)) (frameOf (take (lineLen s) s)) (bad 1)
+firstFrame s = cond (ltb (lineLen s) (length s)) (frameOf (take (lineLen s) s)) (bad 1)

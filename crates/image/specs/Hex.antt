@@ -1,23 +1,18 @@
 -- Hexadecimal text: "Lowercase digits in pairs". A text is a list of bytes. Assumes nothing.
 use Prim.Native.Nat.{ℕ, _+_, _-_, _*_}
 use mathlib.Core.List.{List, [], _∷_}
-use mathlib.Core.Bool.{Bool, true, false}
+use mathlib.Core.Bool.{Bool, true, false, cond}
 use lib.Dec.{leb, ltb}
-
--- one of two by a test
-abbrev pub pick {ℓ} : {X : Type ℓ} → Bool → X → X → X
-pick true x y = x
-pick false x y = y
 
 -- what a digit stands for: 0 to 15; 16 where the byte is no lowercase hexadecimal digit
 unfoldable pub digitOf : ℕ → ℕ
-digitOf b = pick (leb 48 b) (pick (leb b 57) (b - 48) (pick (leb 97 b) (pick (leb b 102) (b - 87) 16) 16)) 16
+digitOf b = cond (leb 48 b) (cond (leb b 57) (b - 48) (cond (leb 97 b) (cond (leb b 102) (b - 87) 16) 16)) 16
 
 -- digits in pairs, to the end
 unfoldable pub paired : List ℕ → Bool
 paired [] = true
 paired (a ∷ []) = false
-paired (a ∷ b ∷ l) = pick (ltb (digitOf a) 16) (pick (ltb (digitOf b) 16) (paired l) false) false
+paired (a ∷ b ∷ l) = cond (ltb (digitOf a) 16) (cond (ltb (digitOf b) 16) (paired l) false) false
 
 -- the bytes that the pairs stand for
 unfoldable pub bytesOf : List ℕ → List ℕ

@@ -4,7 +4,7 @@ use Prim.Native.Nat.{ℕ, _+_}
 use mathlib.Core.List.{List, [], _∷_}
 use lib.ListN.{length}
 use lib.Dec.{leb, ltb, eqb}
-use Rattle.image.specs.Hex.{pick}
+use mathlib.Core.Bool.{cond}
 use Rattle.image.specs.Frames.{F, shape, framesOf}
 use Rattle.image.specs.declared.Frame.{Frame}
 use Rattle.image.specs.declared.Frame.the-variants.{Open, Const, Str, Code, End, Bad}
@@ -17,26 +17,26 @@ use Rattle.image.specs.declared.Judged.the-variants.{Accepted, Refused}
 -- a constant: in a prototype (2), before its instructions (2), at most 256 (3)
 unfoldable pub constStep : Counts → Step
 constStep st =
-    pick (leb 1 (st .protos))
-    (pick (eqb (st .codes) 0)
-    (pick (ltb (st .consts) 256) (On (record { protos = st .protos; consts = st .consts + 1; codes = st .codes })) (No 3))
+    cond (leb 1 (st .protos))
+    (cond (eqb (st .codes) 0)
+    (cond (ltb (st .consts) 256) (On (record { protos = st .protos; consts = st .consts + 1; codes = st .codes })) (No 3))
     (No 2))
     (No 2)
 
 -- an instruction: in a prototype (2), at most 4,096 (3)
 unfoldable pub codeStep : Counts → Step
 codeStep st =
-    pick (leb 1 (st .protos))
-    (pick (ltb (st .codes) 4096) (On (record { protos = st .protos; consts = st .consts; codes = st .codes + 1 })) (No 3))
+    cond (leb 1 (st .protos))
+    (cond (ltb (st .codes) 4096) (On (record { protos = st .protos; consts = st .consts; codes = st .codes + 1 })) (No 3))
     (No 2)
 
 -- one frame more: at most 32 prototypes (3); "e0 count wrong" (2)
 unfoldable pub stepOf : Counts → Frame → Step
-stepOf st (Open r p) = pick (ltb (st .protos) 32) (On (record { protos = st .protos + 1; consts = 0; codes = 0 })) (No 3)
+stepOf st (Open r p) = cond (ltb (st .protos) 32) (On (record { protos = st .protos + 1; consts = 0; codes = 0 })) (No 3)
 stepOf st (Const k w) = constStep st
 stepOf st (Str n) = constStep st
 stepOf st (Code w) = codeStep st
-stepOf st (End n) = pick (eqb n (st .protos)) Done (No 2)
+stepOf st (End n) = cond (eqb n (st .protos)) Done (No 2)
 stepOf st (Bad k) = No k
 
 abbrev pub start : Counts
@@ -60,4 +60,4 @@ judgeFrames st n (f ∷ fs) = after (stepOf st (shape f)) (st .protos) n fs (λ 
 
 -- accepted with its number of prototypes, or refused with the number and the line. "Limits: 65,536 image bytes"
 unfoldable pub judgeOf : List ℕ → Judged
-judgeOf s = pick (ltb 65536 (length s)) (Refused 3 0) (judgeFrames start 0 (framesOf s))
+judgeOf s = cond (ltb 65536 (length s)) (Refused 3 0) (judgeFrames start 0 (framesOf s))

@@ -2,7 +2,7 @@
 use Prim.Native.Nat.{ℕ, zero, suc}
 use mathlib.Core.List.{List, [], _∷_}
 use lib.Dec.{eqb}
-use Rattle.image.specs.Hex.{pick}
+use mathlib.Core.Bool.{cond}
 
 pub data Line : Type 0 where
   ended : List ℕ → Line
@@ -16,9 +16,9 @@ onto b (unended l ∷ ls) = unended (b ∷ l) ∷ ls
 
 unfoldable pub lines : List ℕ → List Line
 lines [] = []
-lines (b ∷ s) = pick (eqb b 10) (ended [] ∷ lines s) (onto b (lines s))
+lines (b ∷ s) = cond (eqb b 10) (ended [] ∷ lines s) (onto b (lines s))
 
 -- how many bytes stand before the first LF, or in all where there is none
 unfoldable pub lineLen : List ℕ → ℕ
 lineLen [] = zero
-lineLen (b ∷ s) = pick (eqb b 10) zero (suc (lineLen s))
+lineLen (b ∷ s) = cond (eqb b 10) zero (suc (lineLen s))

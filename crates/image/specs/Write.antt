@@ -2,12 +2,12 @@
 use Prim.Native.Nat.{ℕ, zero, suc, _+_, _/_, _%_}
 use mathlib.Core.List.{List, [], _∷_, _++_}
 use lib.Dec.{ltb}
-use Rattle.image.specs.Hex.{pick}
+use mathlib.Core.Bool.{cond}
 use Rattle.image.specs.Instruction.{operationOf, flagsOf, aOf, bOf, cOf}
 use Rattle.image.specs.Frames.{F, opens, const, str, code, ends, bad, payload}
 
 unfoldable pub hexDigit : ℕ → ℕ
-hexDigit n = pick (ltb n 10) (48 + n) (87 + n)
+hexDigit n = cond (ltb n 10) (48 + n) (87 + n)
 
 unfoldable pub hexOf : List ℕ → List ℕ
 hexOf [] = []

@@ -2,7 +2,7 @@
 // input. For each it writes the answer's number, the prototypes or the line, and a digest of every slice with all that
 // lies beyond; then, of writing that storage back into a byte less than the image has and into as many, the answer's
 // number, the bytes, and a digest of the output with all that lies beyond.
-// tools/images/cases.py makes the list, and by a reader of its own what must be written.
+// tools/images/cases.py makes the list, and by tools/oracle what must be written.
 //
 // A line of the list is one of
 //   # words              a case's name, written as it is

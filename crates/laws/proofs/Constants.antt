@@ -4,16 +4,15 @@ use Prim.Native.Nat.{ℕ, zero, suc, _+_, _*_, _≤_, _<_}
 use native.Mathlib.Omega.{arith}
 use native.Mathlib.Nat.{add-zero}
 use mathlib.Core.Path.{_≡_, refl, sym, ap, _∙_}
-use mathlib.Core.Bool.{true}
+use mathlib.Core.Bool.{true, cond}
 use mathlib.Core.List.{List, [], _∷_}
 use lib.ListN.{length, getD}
 use lib.Dec.{eqb}
 use borrow.Author.Tests.{eq-eqb, eqb-true, eqb-false, lt-ltb}
-use Rattle.image.specs.Hex.{pick}
 use Rattle.image.specs.Frames.{F, opens, const, str, code, shape, mostOf}
 use Rattle.image.specs.declared.Counts.{Counts}
 use Rattle.image.specs.declared.Step.the-variants.{On, Done}
-use Rattle.image.proofs.Cases.{split, pick-cases}
+use Rattle.choices.proofs.Choices.{cond-cases, by-order}
 use Rattle.image.proofs.Said.{Said, AllSaid, more}
 use Rattle.image.proofs.Trip.{accepted-said}
 use Rattle.storage.specs.Layout.{Storage}
@@ -58,7 +57,7 @@ pub record From (S : Storage) (q p c k : ℕ) : Type 0 where
 -- at a, and behind it: from there on
 from-on : (P : ℕ → Type 0) (a : ℕ) → P a → ((i : ℕ) → a + 1 ≤ i → P i) → (i : ℕ) → a ≤ i → P i
 from-on P a here rest i h =
-    split (a + 1) i (λ g. rest i g) (λ g. let e : a ≡ i = omega arith in rw e at here)
+    by-order (a + 1) i (λ g. rest i g) (λ g. let e : a ≡ i = omega arith in rw e at here)
 
 -- one start more, and one passed
 module _ (first : ℕ → ℕ) (q p c : ℕ) where
@@ -206,9 +205,9 @@ module _ (table kinds words : List ℕ) (i : ℕ) where
   string-fits e h = rw (e, lt-ltb i (firstConstant table (prototypesOf table)) h)
 
   proper-fits : i < firstConstant table (prototypesOf table) → Proper (getD kinds i 0) (getD words i 0)
-      → valueFits table kinds (getD kinds i 0) (pick (eqb (getD kinds i 0) 4) i (getD words i 0)) ≡ true
+      → valueFits table kinds (getD kinds i 0) (cond (eqb (getD kinds i 0) 4) i (getD words i 0)) ≡ true
   proper-fits h p =
-      pick-cases (λ w. valueFits table kinds (getD kinds i 0) w ≡ true) (eqb (getD kinds i 0) 4) _ _
+      cond-cases (λ w. valueFits table kinds (getD kinds i 0) w ≡ true) (eqb (getD kinds i 0) 4) _ _
       (λ e. string-fits (eqb-true _ _ e) h)
       (λ e. let n = eqb-false (getD kinds i 0) 4 e in
       let f : getD kinds i 0 < 4 = omega (arith, p .kind) in

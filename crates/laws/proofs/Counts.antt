@@ -2,11 +2,11 @@
 use mathlib.Core.Path.{_≡_, refl}
 use Prim.Native.Nat.{ℕ, zero, suc, _+_}
 use lib.Dec.{eqb}
-use Rattle.image.proofs.Cases.{by-bool}
+use Rattle.choices.proofs.Choices.{by-bool}
 use Rattle.storage.specs.Layout.{Storage}
-use Rattle.fitness.specs.Fit.{State}
-use Rattle.vm.specs.Step.{Turn, on, stop, fault, stepOf}
-use Rattle.vm.specs.Run.{ended, answerOf, standingOf, after, runFrom, runOf}
+use Rattle.state.specs.States.{State}
+use Rattle.step.specs.Step.{Turn, on, stop, fault, stepOf}
+use Rattle.step.specs.Run.{ended, answerOf, standingOf, after, runFrom, runOf}
 use Rattle.laws.specs.Statements.{Steps, none, more, Counted, stood, spent, stopped, faulted, CountsSteps}
 
 module _ (S : Storage) where

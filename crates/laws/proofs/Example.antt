@@ -8,7 +8,7 @@ use borrow.Author.Tests.{eqb-true, eqb-false}
 use lib.Dec.{eqb}
 use lib.ListN.{drop}
 use lib.Seq.{take-append-seam}
-use Rattle.image.proofs.Cases.{by-bool}
+use Rattle.choices.proofs.Choices.{by-bool}
 use Rattle.image.specs.Hex.{digitOf, paired, bytesOf, wordFrom}
 use Rattle.image.specs.Lines.{onto, lines}
 use Rattle.image.specs.Frames.{F, opens, const, code, ends, shape, openBytes, payload, mostOf, wordBytesOf, constBytes, codeBytes, endBytes, kindBytes, frameOf, lineFrame, framesOf}
@@ -27,7 +27,7 @@ use Rattle.checker.specs.Check.{checkOf}
 use Rattle.checker.specs.declared.Checked.the-variants.{Accepted}
 use Rattle.checker.specs.Kept.{KeptAt, Sound, Demanded}
 use Rattle.checker.proofs.Exact.{exact}
-use Rattle.fitness.specs.Fit.{allBelow}
+use Rattle.choices.specs.Below.{allBelow}
 use Rattle.starter.specs.Start.{permitted, checkedStart, startOf}
 use Rattle.laws.specs.Session.{sessionImage, sessionIn, SessionStarts, SessionReads, SessionWritten}
 

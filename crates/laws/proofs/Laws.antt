@@ -3,7 +3,7 @@ use mathlib.Core.Path.{_≡_}
 use mathlib.Core.List.{List, []}
 use Prim.Native.Nat.{ℕ}
 use Rattle.storage.specs.Layout.{Storage}
-use Rattle.fitness.specs.Fit.{State}
+use Rattle.state.specs.States.{State}
 use Rattle.starter.specs.Start.{begun}
 use Rattle.writer.proofs.RoundTrip as writer
 use Rattle.checker.proofs.Exact as checker

@@ -3,13 +3,13 @@ use mathlib.Core.Path.{_≡_}
 use Prim.Native.Nat.{ℕ, _+_, _<_, _≤_}
 use native.Mathlib.Omega.{arith}
 use borrow.Author.Tests.{lt-ltb}
-use Rattle.activation.specs.Record.{following}
-use Rattle.activation.specs.declared.Activation.{Activation}
-use Rattle.activation.proofs.Windows.{following-most}
+use Rattle.state.specs.Record.{following}
+use Rattle.state.specs.declared.Activation.{Activation}
+use Rattle.state.proofs.Windows.{following-most}
 use Rattle.effects.specs.declared.Go.{Go}
 use Rattle.effects.specs.declared.Go.the-variants.{Next, Skip, To}
 use Rattle.reach.specs.Suits.{Goes}
-use Rattle.vm.specs.Step.{placed}
+use Rattle.step.specs.Step.{placed}
 
 pub following-small : (p : ℕ) → p ≤ 65536 → following p ≡ p + 1
 following-small p h = rw (lt-ltb p 0xffff_ffff_ffff_ffff (omega arith))

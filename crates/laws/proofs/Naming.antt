@@ -1,12 +1,12 @@
 -- What an effect says of its instruction: only a Call enters, only a Return leaves, and in an accepted image none faults. Assumes nothing.
-use mathlib.Core.Path.{_≡_, refl}
+use mathlib.Core.Path.{_≡_, refl, sym, _∙_}
 use mathlib.Core.Bool.{Bool, true, Bool·beq, _&&_, false≢true}
 use mathlib.Core.List.{List}
 use Prim.Native.Nat.{ℕ, _<_}
 use borrow.Author.Tests.{lt-ltb}
-use Rattle.image.proofs.Cases.{pick-cases}
+use Rattle.choices.proofs.Choices.{cond-cases}
 use Rattle.storage.specs.Layout.{Storage}
-use Rattle.storage.specs.Fields.{prototypesOf, instructionsOf, instructionAt}
+use Rattle.storage.specs.Fields.{prototypesOf, instructionsOf}
 use Rattle.constant.specs.Values.{truth, valueOf}
 use Rattle.constant.specs.Operators.{addOf}
 use Rattle.constant.specs.Comparison.{lessThanOf, lessEqualOf, isNumeric, pastEndOf}
@@ -15,19 +15,18 @@ use Rattle.constant.specs.declared.Answer.{Answer}
 use Rattle.constant.specs.declared.Answer.the-variants.{Is, Raises}
 use Rattle.constant.specs.declared.Compared.{Compared}
 use Rattle.constant.specs.declared.Compared.the-variants as compared
-use Rattle.checker.specs.Operations.{Shape, copies, loadsConstant, loadsBool, loadsNil, calls, returns, jumps, tests, testsAndSets, closes, prepares, loops, compares, combines, unknown, shapeAt}
-use Rattle.checker.specs.Rules.{carried}
-use Rattle.checker.specs.Decode.{operandsOf, decodeOf}
-use Rattle.checker.specs.Check.{limitsOf}
+use Rattle.checker.specs.Operations.{shapeAt}
+use Rattle.checker.specs.Decode.{decodeOf, classOf}
+use Rattle.checker.specs.Check.{siteOf}
 use Rattle.checker.specs.Kept.{Kept, Demanded}
-use Rattle.checker.specs.declared.Limits.{Limits}
+use Rattle.checker.specs.declared.Site.{Site}
 use Rattle.checker.specs.declared.Unary.{Unary}
 use Rattle.checker.specs.declared.Unary.the-variants as unary
 use Rattle.checker.specs.declared.Compare.{Compare}
 use Rattle.checker.specs.declared.Compare.the-variants as compare
 use Rattle.checker.specs.declared.Instruction.{Instruction}
 use Rattle.checker.specs.declared.Instruction.the-variants as instruction
-use Rattle.checker.proofs.Lowest.{unbroken}
+use Rattle.checker.proofs.Lowest.{unbroken, not-carried}
 use Rattle.effects.specs.declared.Go.{Go}
 use Rattle.effects.specs.declared.Effect.{Effect}
 use Rattle.effects.specs.declared.Effect.the-variants.{Set, Goto, Clear, Loop, Enter, Leave, Fail, Fault}
@@ -37,43 +36,12 @@ use Rattle.fitness.specs.Fit.{isCall, isReturn, decodedAt}
 -- ---- an instruction that keeps the rules
 
 abbrev pub Good : Instruction → Type 0
-Good (instruction.Unary u d s) = Unit {0}
-Good (instruction.LoadConstant d c) = Unit {0}
-Good (instruction.LoadBool d b n) = Unit {0}
-Good (instruction.LoadNil d n) = Unit {0}
-Good (instruction.Call f a r) = Unit {0}
-Good (instruction.Return s n) = Unit {0}
-Good (instruction.Jump t) = Unit {0}
-Good (instruction.Test r b) = Unit {0}
-Good (instruction.TestSet d r b) = Unit {0}
-Good (instruction.Closure d q) = Unit {0}
-Good (instruction.NumericForPrep b t) = Unit {0}
-Good (instruction.NumericForLoop b t) = Unit {0}
-Good (instruction.Compare c b l r) = Unit {0}
-Good (instruction.Binary o d l r) = Unit {0}
-Good (instruction.Bad n) = ⊥
+Good i = (n : ℕ) → i ≡ instruction.Bad n → ⊥
 
-operands-good : (s : Shape) (p w : ℕ) → carried s w ≡ true → Good (operandsOf s p w)
-unfolding operandsOf carried
-operands-good copies p w e = tt
-operands-good loadsConstant p w e = tt
-operands-good loadsBool p w e = tt
-operands-good loadsNil p w e = tt
-operands-good calls p w e = tt
-operands-good returns p w e = tt
-operands-good jumps p w e = tt
-operands-good tests p w e = tt
-operands-good testsAndSets p w e = tt
-operands-good closes p w e = tt
-operands-good prepares p w e = tt
-operands-good loops p w e = tt
-operands-good compares p w e = tt
-operands-good combines p w e = tt
-operands-good unknown p w e = absurd (false≢true e)
-
-decode-good : (l : Limits) (p w : ℕ) → Kept l p w → Good (decodeOf l p w)
+decode-good : (s : Site) → Kept s → Good (decodeOf s)
 unfolding decodeOf
-decode-good l p w k = rw (unbroken l p w k) (operands-good (shapeAt w) p w (k .carried))
+decode-good s k =
+    rw (unbroken s k) (λ n e. false≢true (sym (not-carried (shapeAt (s .word)) s n e) ∙ k .carried))
 
 pub decoded-good :
     (S : Storage) → Demanded S → (q p : ℕ) → q < prototypesOf (S .table) → p < instructionsOf (S .table) q
@@ -81,7 +49,7 @@ pub decoded-good :
 unfolding decodedAt
 decoded-good S d q p h g =
     rw (lt-ltb p (instructionsOf (S .table) q) g)
-    (decode-good (limitsOf (S .table) q) p (instructionAt (S .table) (S .code) q p) (d .each q h .each p g))
+    (decode-good (siteOf (S .table) (S .code) q p) (d .each q h .each p g))
 
 -- ---- the instruction that an effect tells of
 
@@ -90,8 +58,8 @@ Tells i (Set r k w go) = Unit {0}
 Tells i (Goto go) = Unit {0}
 Tells i (Clear r n) = Unit {0}
 Tells i (Loop r k w t) = Unit {0}
-Tells i (Enter function arguments) = isCall i ≡ true
-Tells i (Leave start n) = isReturn i ≡ true
+Tells i (Enter function arguments) = isCall (classOf i) ≡ true
+Tells i (Leave start n) = isReturn (classOf i) ≡ true
 Tells i (Fail n) = Unit {0}
 Tells i Fault = ⊥
 
@@ -121,17 +89,17 @@ module _ (i : Instruction) where
 
   test-set-tells : (d : ℕ) (b : Bool) (k w : ℕ) → Tells i (testSetEffect d b k w)
   unfolding testSetEffect
-  test-set-tells d b k w = pick-cases (Tells i) (Bool·beq (truth (valueOf k w)) b) _ _ (λ _. tt) (λ _. tt)
+  test-set-tells d b k w = cond-cases (Tells i) (Bool·beq (truth (valueOf k w)) b) _ _ (λ _. tt) (λ _. tt)
 
   loop-with-tells : (limit step : Value) (r t : ℕ) (a : Answer) → Tells i (loopWith limit step r t a)
   unfolding loopWith
-  loop-with-tells limit step r t (Is v) = pick-cases (Tells i) (pastEndOf v limit step) _ _ (λ _. tt) (λ _. tt)
+  loop-with-tells limit step r t (Is v) = cond-cases (Tells i) (pastEndOf v limit step) _ _ (λ _. tt) (λ _. tt)
   loop-with-tells limit step r t (Raises e) = tt
 
   loop-tells : (index limit step : Value) (r t : ℕ) → Tells i (loopEffect index limit step r t)
   unfolding loopEffect
   loop-tells index limit step r t =
-      pick-cases (Tells i) (isNumeric index && isNumeric limit && isNumeric step) _ _
+      cond-cases (Tells i) (isNumeric index && isNumeric limit && isNumeric step) _ _
       (λ _. loop-with-tells limit step r t (addOf index step)) (λ _. tt)
 
 pub effect-tells : (g : Sight) (i : Instruction) → Good i → Tells i (effectOf g i)
@@ -150,4 +118,4 @@ effect-tells g (instruction.NumericForPrep b t) n = stored-tells (instruction.Nu
 effect-tells g (instruction.NumericForLoop b t) n = loop-tells (instruction.NumericForLoop b t) _ _ _ b t
 effect-tells g (instruction.Compare c b l r) n = compare-tells (instruction.Compare c b l r) _ _ c b _ _
 effect-tells g (instruction.Binary o d l r) n = stored-tells (instruction.Binary o d l r) d _ _
-effect-tells g (instruction.Bad m) n = absurd n
+effect-tells g (instruction.Bad m) n = absurd (n m refl)

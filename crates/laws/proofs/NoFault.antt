@@ -2,19 +2,16 @@
 use mathlib.Core.Path.{_≡_}
 use Prim.Native.Nat.{ℕ}
 use native.Mathlib.Omega.{arith}
-use Rattle.vm.specs.Run.{runOf}
-use Rattle.vm.specs.declared.Outcome.{Outcome}
-use Rattle.laws.specs.Statements.{afterRuns, NoFault, StaysFit, LuaError, operator, call, Ends, finished, failed, used, ThreeEnds}
+use Rattle.state.proofs.Marks.{error-no-fault}
+use Rattle.step.specs.Run.{runOf}
+use Rattle.step.specs.declared.Outcome.{Outcome}
+use Rattle.laws.specs.Statements.{afterRuns, NoFault, StaysFit, Ends, finished, failed, used, ThreeEnds}
 use Rattle.laws.proofs.Runs.{run-whole, after-fit}
 use Rattle.laws.proofs.Started.{begun-demanded, begun-fit}
 
-error-apart : (n : ℕ) → LuaError n → n ≡ 60 → ⊥
-error-apart n (operator h g) e = omega arith
-error-apart n (call h g) e = omega arith
-
 ends-apart : (b : ℕ) (o : Outcome) → Ends b o → o .number ≡ 60 → ⊥
 ends-apart b o (finished e) z = omega arith
-ends-apart b o (failed e) z = error-apart (o .number) e z
+ends-apart b o (failed e) z = error-no-fault (o .number) e z
 ends-apart b o (used e c) z = omega arith
 
 pub stays-fit : StaysFit

@@ -5,7 +5,7 @@ use mathlib.Core.Bool.{true, false, _&&_}
 use mathlib.Core.List.{List}
 use lib.IntN.{ℤ}
 use lib.Ieee.{Float}
-use Rattle.image.proofs.Cases.{pick-cases}
+use Rattle.choices.proofs.Choices.{cond-cases}
 use Rattle.integer.specs.Floor.{quotient, modulus}
 use Rattle.integer.specs.declared.Divided.{Divided}
 use Rattle.integer.specs.declared.Divided.the-variants as division
@@ -122,11 +122,11 @@ module _ (S : Storage) where
   unfolding loopWith
   turn-holds limit step base target (Is v) p =
       let h = plain-fits (S .table) (S .kinds) v p in
-      pick-cases (Holds S) (pastEndOf v limit step) _ _ (λ e. h) (λ e. h)
+      cond-cases (Holds S) (pastEndOf v limit step) _ _ (λ e. h) (λ e. h)
   turn-holds limit step base target (Raises e) p = tt
 
   pub loop-holds : (index limit step : Value) (base target : ℕ) → Holds S (loopEffect index limit step base target)
   unfolding loopEffect
   loop-holds index limit step base target =
-      pick-cases (Holds S) (isNumeric index && isNumeric limit && isNumeric step) _ _
+      cond-cases (Holds S) (isNumeric index && isNumeric limit && isNumeric step) _ _
       (λ e. turn-holds limit step base target (addOf index step) (add-plain index step)) (λ e. tt)

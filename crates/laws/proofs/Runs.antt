@@ -1,55 +1,43 @@
 -- Runs of an accepted image from a fit state: the state is fit again, and the answer is 0, a Lua error, or 70 with the whole budget counted. Assumes nothing.
 use mathlib.Core.Path.{_≡_, refl, _∙_}
-use mathlib.Core.Bool.{Bool, true, false, _&&_, _||_}
+use mathlib.Core.Bool.{true}
 use mathlib.Core.List.{List, [], _∷_}
 use Prim.Native.Nat.{ℕ, zero, suc, _+_, _-_, _<_}
 use native.Mathlib.Omega.{arith}
-use borrow.Author.Tests.{leb-true, eqb-true, eqb-false}
-use lib.Dec.{leb, eqb}
+use borrow.Author.Tests.{eqb-true, eqb-false}
+use lib.Dec.{eqb}
 use Rattle.storage.specs.Layout.{Storage}
 use Rattle.storage.specs.Fields.{prototypesOf, registersOf, instructionsOf}
 use Rattle.checker.specs.Kept.{Demanded}
-use Rattle.checker.proofs.Bools.{and-right}
-use Rattle.activation.specs.Frames.{markIn, depthIn, prototypeIn, instructionIn, baseOf}
-use Rattle.activation.specs.Record.{innermost}
+use Rattle.choices.proofs.Choices.{cond-cases}
+use Rattle.state.specs.Frames.{markIn, depthIn, prototypeIn, instructionIn, baseOf}
+use Rattle.state.specs.Record.{innermost}
 use Rattle.effects.specs.Effects.{Sight, sight, effectOf}
-use Rattle.fitness.specs.Fit.{State, markFits, decodedAt, registerFits, fitOf}
-use Rattle.fitness.proofs.Tests.{and-left}
+use Rattle.state.proofs.Windows.{base-last}
+use Rattle.fitness.specs.Fit.{markFits, decodedAt, registerFits, fitOf}
+use Rattle.fitness.specs.Facts.{Valid, Fit}
+use Rattle.fitness.proofs.Facts.{mark-cases, fit-facts, facts-fit}
+use Rattle.state.specs.States.{State}
 use Rattle.reach.proofs.Reaching.{effect-suits}
-use Rattle.vm.specs.Step.{Turn, on, stop, fault, stepOf}
-use Rattle.vm.specs.declared.Outcome.{Outcome}
-use Rattle.vm.specs.Run.{Ended, ended, answerOf, standingOf, after, runFrom, runOf}
-use Rattle.laws.specs.Statements.{operator, call, Ends, finished, failed, used, afterRuns}
-use Rattle.laws.proofs.Choices.{cond-cases}
-use Rattle.laws.proofs.Windows.{Valid}
-use Rattle.laws.proofs.Facts.{Fit, fit-facts, facts-fit}
-use Rattle.laws.proofs.Stacks.{base-suc, there-prototype, there-instruction}
+use Rattle.step.specs.Step.{Turn, on, stop, fault, stepOf}
+use Rattle.step.specs.declared.Outcome.{Outcome}
+use Rattle.step.specs.Run.{Ended, ended, answerOf, standingOf, after, runFrom, runOf}
+use Rattle.laws.specs.Statements.{Ends, finished, failed, used, afterRuns}
+use Rattle.laws.proofs.Frames.{there-prototype, there-instruction}
 use Rattle.laws.proofs.Values.{effect-holds}
 use Rattle.laws.proofs.Naming.{decoded-good, effect-tells}
-use Rattle.laws.proofs.Steps as steps
-use Rattle.laws.proofs.Steps.{Halts, Running, Stays, applied}
+use Rattle.laws.proofs.Marks as marks
+use Rattle.laws.proofs.Marks.{Halts}
+use Rattle.laws.proofs.Steps.{Running, Stays, applied}
 
 -- ---- marks
 
-or-cases : {X : Type 0} (a b : Bool) → a || b ≡ true → (a ≡ true → X) → (b ≡ true → X) → X
-or-cases true b e f g = f refl
-or-cases false b e f g = g e
-
 mark-halts : (m : ℕ) → markFits m ≡ true → (m ≡ 70 → ⊥) → Halts m
-unfolding markFits
-mark-halts m e n =
-    or-cases (eqb m 70 || eqb m 0 || (leb 30 m && leb m 44)) (leb 50 m && leb m 52) e
-    (λ x. or-cases (eqb m 70 || eqb m 0) (leb 30 m && leb m 44) x
-    (λ y. or-cases (eqb m 70) (eqb m 0) y (λ z. absurd (n (eqb-true _ _ z))) (λ z. zero-halts m (eqb-true _ _ z)))
-    (λ y. steps.failed (operator (leb-true _ _ (and-left (leb 30 m) (leb m 44) y)) (leb-true _ _ (and-right (leb 30 m) (leb m 44) y)))))
-    (λ x. steps.failed (call (leb-true _ _ (and-left (leb 50 m) (leb m 52) x)) (leb-true _ _ (and-right (leb 50 m) (leb m 52) x))))
-  where
-    zero-halts : (m : ℕ) → m ≡ 0 → Halts m
-    zero-halts m z = rw z steps.finished
+mark-halts m e n = mark-cases m e (λ z. absurd (n z)) (λ z. rw z marks.finished) (λ z. marks.failed z)
 
 halts-ends : (budget : ℕ) (o : Outcome) (n : ℕ) → o .number ≡ n → Halts n → Ends budget o
-halts-ends budget o n z steps.finished = finished z
-halts-ends budget o n z (steps.failed x) = failed (rw z x)
+halts-ends budget o n z marks.finished = finished z
+halts-ends budget o n z (marks.failed x) = failed (rw z x)
 
 -- ---- one step
 
@@ -69,12 +57,12 @@ step-stays S s demanded h =
     let p : ℕ = instructionIn f i in
     let base : ℕ = baseOf t f i in
     let st = h .fit .stack in
-    let o = st .some in
+    let o = st .steady .some in
     let there = st .there i (omega arith) in
     let hq : q < prototypesOf t = there-prototype t f i there in
     let hp : p < instructionsOf t q = there-instruction t f i there in
     let g : Sight = sight t (S .kinds) (S .words) (S .texts) (s .kinds) (s .words) q base in
-    let end : baseOf t f (depthIn f) ≡ base + registersOf t q = base-suc t f (depthIn f) i (omega arith) in
+    let end : baseOf t f (depthIn f) ≡ base + registersOf t q = base-last t f (depthIn f) o in
     applied S s (h .fit) (h .runs) demanded (effectOf g (decodedAt t (S .code) q p)) (effect-suits t (S .code) q p g)
     (effect-holds S (demanded .long) (demanded .reads) (s .kinds) (s .words) q base p hq
     (live t (S .kinds) (baseOf t f (depthIn f)) base (registersOf t q) (s .kinds) (s .words) (h .fit .valid) end) hp)

@@ -1,22 +1,23 @@
 -- Runs of a, then b, are one run of a + b. Assumes nothing.
-use mathlib.Core.Path.{_≡_, refl, sym, ap, _∙_, subst}
+use mathlib.Core.Path.{_≡_, refl, sym, ap, _∙_}
 use mathlib.Core.Bool.{true, false}
 use Prim.Native.Nat.{ℕ, zero, suc, _+_, _≤_}
 use native.Mathlib.Omega.{arith}
 use native.Mathlib.Nat.{zero-add, suc-add}
 use borrow.Author.Tests.{ne-eqb, eqb-true}
 use lib.Dec.{eqb}
-use lib.ListN.{length, length-set}
-use lib.Seq.{getD-set-same}
-use Rattle.image.proofs.Cases.{by-bool}
+use lib.ListN.{length}
+use Rattle.choices.proofs.Choices.{by-bool}
 use Rattle.storage.specs.Layout.{Storage}
-use Rattle.activation.specs.Frames.{markIn}
-use Rattle.fitness.specs.Fit.{State, fitOf}
-use Rattle.vm.specs.Step.{Turn, on, stop, fault, marked, stepOf}
-use Rattle.vm.specs.Run.{Ended, ended, outcome, answerOf, standingOf, after, runFrom, runOf}
+use Rattle.state.specs.Frames.{markIn}
+use Rattle.state.proofs.Fields.{mark-length, mark-mark}
+use Rattle.fitness.specs.Fit.{fitOf}
+use Rattle.fitness.proofs.Facts.{fit-facts}
+use Rattle.state.specs.States.{State, framesSize}
+use Rattle.step.specs.Step.{Turn, on, stop, fault, marked, stepOf}
+use Rattle.step.specs.Run.{Ended, ended, outcome, answerOf, standingOf, after, runFrom, runOf}
 use Rattle.laws.specs.Statements.{joined, twoRuns, Resumable, SplitAny}
-use Rattle.laws.proofs.Facts.{fit-facts}
-use Rattle.laws.proofs.Marks.{Marks, marks}
+use Rattle.laws.proofs.Marks.{Halts, halts-apart, Marks, marks}
 
 -- how a run of a running machine ended, before it is answered by a number: with its count and the state that it left
 data Ran : Type 0 where
@@ -110,14 +111,13 @@ module _ (S : Storage) where
 
   abbrev Stands : Ran → Type 0
   Stands (used c t) = markIn (t .frames) ≡ 70
-  Stands (halted n c t) = (n ≤ 52) × (1 ≤ length (t .frames) → markIn (t .frames) ≡ n)
+  Stands (halted n c t) = Halts n × (framesSize ≤ length (t .frames) → markIn (t .frames) ≡ n)
   Stands (broke c t) = (markIn (t .frames) ≡ 70) × (stepOf S t ≡ fault t)
 
-  stopped : (s : State) (n : ℕ) (t : State) → t ≡ marked n s → 1 ≤ length (t .frames) → markIn (t .frames) ≡ n
+  stopped : (s : State) (n : ℕ) (t : State) → t ≡ marked n s → framesSize ≤ length (t .frames) → markIn (t .frames) ≡ n
   stopped s n t e l =
-      let h : 1 ≤ length (s .frames) =
-      subst (λ (x : ℕ). 1 ≤ x) (ap (λ (x : State). length (x .frames)) e ∙ length-set (s .frames) 0 n) l in
-      ap (λ (x : State). markIn (x .frames)) e ∙ getD-set-same (s .frames) 0 n 0 h
+      let h : length (t .frames) ≡ length (s .frames) = ap (λ (x : State). length (x .frames)) e ∙ mark-length (s .frames) n in
+      ap (λ (x : State). markIn (x .frames)) e ∙ mark-mark (s .frames) n (omega arith)
 
   stands-turn :
       (s : State) → markIn (s .frames) ≡ 70 → (x : Turn) → stepOf S s ≡ x → Marks s x → (done : ℕ) (g : State → Ran)
@@ -139,9 +139,9 @@ module _ (S : Storage) where
     unfolding runOf standingOf answerOf
     runs-on m b = rw (fit, m)
 
-    pub repeats : (n : ℕ) → n ≤ 52 → markIn (t .frames) ≡ n → (b : ℕ) → runOf S b t ≡ ended (answerOf n 0 t) t
+    pub repeats : (n : ℕ) → Halts n → markIn (t .frames) ≡ n → (b : ℕ) → runOf S b t ≡ ended (answerOf n 0 t) t
     unfolding runOf standingOf answerOf
-    repeats n h m b = rw (fit, m, ne-eqb n 70 (λ e. absurd (omega arith)))
+    repeats n h m b = rw (fit, m, ne-eqb n 70 (halts-apart n h))
 
   number-of : (n c : ℕ) (t : State) → (answerOf n c t) .number ≡ n
   unfolding answerOf
@@ -180,9 +180,6 @@ module _ (S : Storage) where
   faults zero t e h = absurd (h refl)
   faults (suc b) t e h = rw e
 
-  has-mark : (t : State) → fitOf S t ≡ true → 1 ≤ length (t .frames)
-  has-mark t fit = let h = fit-facts S t fit .stack .long in omega arith
-
   module _ (a b : ℕ) (s : State) where
     -- however the first run ended
     ended-first :
@@ -192,7 +189,7 @@ module _ (S : Storage) where
         ap (joined (answered (used c t))) (runs-on t fit m b ∙ ran b 0 t) ∙ joins 70 c t (ranFrom b 0 t)
         ∙ ap answered (sym (counts-from b c t))
     ended-first (halted n c t) m fit goes =
-        ap (joined (answered (halted n c t))) (repeats t fit n (m .0) (m .1 (has-mark t fit)) b) ∙ same-again n c n t
+        ap (joined (answered (halted n c t))) (repeats t fit n (m .0) (m .1 (fit-facts S t fit .stack .steady .long)) b) ∙ same-again n c n t
     ended-first (broke c t) m fit goes =
         ap (joined (answered (broke c t))) (runs-on t fit (m .0) b ∙ faults b t (m .1) (goes (number-of 60 c t))) ∙ same-again 60 c 60 t
 

@@ -2,13 +2,12 @@
 use mathlib.Core.Path.{_≡_, refl, sym, ap, _∙_}
 use mathlib.Core.Bool.{Bool, true, _&&_}
 use mathlib.Core.List.{List}
-use Prim.Native.Nat.{ℕ, _+_, _-_, _<_, _≤_}
+use Prim.Native.Nat.{ℕ, _-_, _<_, _≤_}
 use native.Mathlib.Omega.{arith}
 use borrow.Author.Tests.{ltb-true}
 use lib.Dec.{eqb, leb, ltb}
-use lib.ListN.{length, getD, length-set}
-use lib.Seq.{getD-set-same, getD-set-other}
-use Rattle.image.proofs.Cases.{by-bool}
+use lib.ListN.{length, getD}
+use Rattle.choices.proofs.Choices.{by-bool, and-right, and-left}
 use Rattle.storage.specs.Layout.{Storage}
 use Rattle.storage.specs.Fields.{prototypesOf, registersOf, parametersOf, instructionsOf}
 use Rattle.constant.specs.Values.{isValue}
@@ -16,20 +15,23 @@ use Rattle.checker.specs.Check.{checkOf}
 use Rattle.checker.specs.Kept.{Demanded}
 use Rattle.checker.specs.declared.Checked.{Checked}
 use Rattle.checker.specs.declared.Checked.the-variants.{Accepted, Refused}
-use Rattle.checker.proofs.Bools.{and-right}
 use Rattle.checker.proofs.Exact.{exact}
-use Rattle.activation.specs.Frames.{markIn, depthIn, prototypeIn, instructionIn, baseOf, markWith, depthWith, openedWith}
-use Rattle.activation.specs.Window.{fewer}
-use Rattle.fitness.specs.Fit.{State, allBelow, stateLong, valueFits, fitOf}
-use Rattle.fitness.proofs.Tests.{and-left, all-at}
+use Rattle.state.specs.Frames.{markIn, depthIn, prototypeIn, instructionIn, baseOf, markWith, depthWith, openedWith}
+use Rattle.state.specs.Window.{fewer}
+use Rattle.state.proofs.Fields.{mark-length, mark-mark, depth-length, depth-mark, depth-depth, opened-length, opened-mark, opened-depth, opened-prototype, opened-instruction}
+use Rattle.state.proofs.Windows.{base-none, base-last}
+use Rattle.fitness.specs.Fit.{valueFits, fitOf}
+use Rattle.fitness.specs.Facts.{Fit}
+use Rattle.fitness.proofs.Facts.{running-fits, long-facts, facts-fit}
+use Rattle.choices.specs.Below.{allBelow}
+use Rattle.choices.proofs.Below.{all-at}
+use Rattle.state.specs.States.{State, stateLong, framesSize, registersSize}
 use Rattle.fitness.proofs.Parts.{value-other}
 use Rattle.starter.specs.Start.{argumentFits, permitted, begun, Started, started, checkedStart, startOf}
 use Rattle.laws.specs.Statements.{Begun}
 use Rattle.laws.proofs.Constants.{registers-fit}
 use Rattle.laws.proofs.Windows.{length-first, fewer-left, window-first}
-use Rattle.laws.proofs.Facts.{running-fits, Fit, long-facts, facts-fit}
-use Rattle.laws.proofs.Frames.{length-opened, other-opened, prototype-opened, instruction-opened}
-use Rattle.laws.proofs.Stacks.{base-suc, base-zero, there-of}
+use Rattle.laws.proofs.Frames.{there-of}
 
 -- ---- what an accepted start has found
 
@@ -96,49 +98,38 @@ module _
   abbrev g : List ℕ
   g = openedWith 0 0 f2
 
-  f1-long : length f1 ≡ length (s .frames)
-  f1-long = length-set (s .frames) 0 70
-
-  f2-long : length f2 ≡ length (s .frames)
-  f2-long = length-set f1 1 1 ∙ f1-long
-
-  lengths : (34 ≤ length (s .frames)) × ((2308 ≤ length (s .kinds)) × (2308 ≤ length (s .words)))
+  lengths : (framesSize ≤ length (s .frames)) × ((registersSize ≤ length (s .kinds)) × (registersSize ≤ length (s .words)))
   lengths = long-facts S s long
 
+  f1-long : framesSize ≤ length f1
+  f1-long = omega (arith, lengths .0, mark-length (s .frames) 70)
+
+  f2-long : framesSize ≤ length f2
+  f2-long = omega (arith, f1-long, depth-length f1 1)
+
   depth : depthIn g ≡ 1
-  depth =
-      let l = lengths .0 in
-      let l1 = f1-long in
-      other-opened f2 0 0 1 (λ e. omega arith) (λ e. omega arith) ∙ getD-set-same f1 1 1 0 (omega arith)
+  depth = opened-depth f2 0 0 ∙ depth-depth f1 1 f1-long
 
   mark : markIn g ≡ 70
-  mark =
-      let l = lengths .0 in
-      other-opened f2 0 0 0 (λ e. omega arith) (λ e. omega arith) ∙ getD-set-other f1 1 0 1 0 (λ e. omega arith)
-      ∙ getD-set-same (s .frames) 0 70 0 (omega arith)
+  mark = opened-mark f2 0 0 ∙ depth-mark f1 1 ∙ mark-mark (s .frames) 70 (lengths .0)
 
   prototype : prototypeIn g 0 ≡ 0
-  prototype = let l = lengths .0 in let l2 = f2-long in prototype-opened f2 0 0 (omega arith)
+  prototype = opened-prototype f2 0 0 (omega arith) f2-long
 
   instruction : instructionIn g 0 ≡ 0
-  instruction = let l = lengths .0 in let l2 = f2-long in instruction-opened f2 0 0 (omega arith)
+  instruction = opened-instruction f2 0 0 (omega arith) f2-long
 
   some : 0 < prototypesOf t
   some = omega (arith, demanded .some)
 
   base : baseOf t g (depthIn g) ≡ registersOf t 0
-  base =
-      ap (λ (n : ℕ). baseOf t g n) depth ∙ base-suc t g 1 0 refl ∙ ap (λ (b : ℕ). b + registersOf t (prototypeIn g 0)) (base-zero t g)
-      ∙ ap (λ (x : ℕ). 0 + registersOf t x) prototype ∙ (omega arith)
+  base = rw (depth, base-last t g 1 (omega arith), ← base-none t g, prototype) (omega arith)
 
   facts : Fit S (begun t argKinds argWords s)
   unfolding begun
   facts =
-      let l = lengths .0 in
       let lk = lengths .1 .0 in
       let lw = lengths .1 .1 in
-      let l2 = f2-long in
-      let lg = length-opened f2 0 0 in
       let small = registers-fit S (demanded .reads) 0 some .1 in
       let n : ℕ = fewer (length argKinds) (parametersOf t 0) in
       let few : n ≤ length argKinds = fewer-left (length argKinds) (parametersOf t 0) in
@@ -150,10 +141,12 @@ module _
         words-long = rw length-first lw;
         mark = rw mark running-fits;
         stack = record {
-          long = omega arith;
-          some = rw depth (omega arith);
-          few = rw depth (omega arith);
-          inside = rw base (omega arith);
+          steady = record {
+            long = omega (arith, f2-long, opened-length f2 0 0);
+            some = rw depth (omega arith);
+            few = rw depth (omega arith);
+            ends = rw base (omega arith);
+          };
           there = (λ i m.
               let b : i < 1 = rw depth at m in
               let z : i ≡ 0 = omega arith in

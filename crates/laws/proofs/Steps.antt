@@ -4,7 +4,7 @@ use mathlib.Core.Bool.{Bool, true, cond, _&&_, false≢true}
 use mathlib.Core.List.{List}
 use Prim.Native.Nat.{ℕ, _+_, _-_, _<_, _≤_}
 use native.Mathlib.Omega.{arith}
-use borrow.Author.Tests.{ltb-false, leb-true, leb-false, le-leb, lt-leb, eqb-true, eq-eqb, ne-eqb, ltb-true}
+use borrow.Author.Tests.{ltb-false, leb-true, leb-false, eqb-true, eq-eqb, ne-eqb, ltb-true}
 use lib.Dec.{ltb, leb, eqb}
 use lib.ListN.{length, getD, set, length-set}
 use Rattle.storage.specs.Layout.{Storage}
@@ -12,34 +12,37 @@ use Rattle.storage.specs.Fields.{prototypesOf, registersOf, parametersOf, first
 use Rattle.constant.specs.Values.{isValue}
 use Rattle.checker.specs.Check.{limitsOf}
 use Rattle.checker.specs.Kept.{Demanded}
+use Rattle.checker.specs.Decode.{classOf}
 use Rattle.checker.specs.declared.Instruction.{Instruction}
-use Rattle.checker.specs.declared.Instruction.the-variants as instruction
-use Rattle.checker.proofs.Bools.{and-right}
-use Rattle.activation.specs.Frames.{markIn, depthIn, prototypeIn, instructionIn, baseOf, markWith, depthWith, instructionWith, openedWith}
-use Rattle.activation.specs.Window.{fewer, windowOf}
-use Rattle.activation.specs.declared.Activation.{Activation}
+use Rattle.checker.specs.declared.Class.{Class}
+use Rattle.checker.specs.declared.Class.the-variants.{Calls, Returns, Other}
+use Rattle.choices.proofs.Choices.{and-right, and-left, cond-cases}
+use Rattle.state.specs.Frames.{markIn, depthIn, prototypeIn, instructionIn, baseOf, markWith, depthWith, instructionWith, openedWith}
+use Rattle.state.specs.Window.{fewer, windowOf}
+use Rattle.state.specs.declared.Activation.{Activation}
 use Rattle.effects.specs.declared.Effect.{Effect}
 use Rattle.effects.specs.declared.Effect.the-variants.{Set, Goto, Clear, Loop, Enter, Leave, Fail, Fault}
 use Rattle.effects.specs.declared.Go.the-variants.{Next, To}
-use Rattle.fitness.specs.Fit.{State, state, markFits, decodedAt, isCall, isReturn, beforeIn, waitsIn, valueFits}
-use Rattle.fitness.proofs.Tests.{and-left}
+use Rattle.fitness.specs.Fit.{decodedAt, isCall, isReturn, beforeIn, waitsIn, valueFits}
+use Rattle.state.specs.States.{State, state, registersSize}
+use Rattle.state.specs.Marks.{isLuaError}
+use Rattle.state.proofs.Marks.{error-some}
+use Rattle.state.proofs.Fields.{mark-mark, mark-depth, mark-same, depth-mark, gone-mark, gone-depth, gone-prototype, gone-instruction}
+use Rattle.state.proofs.Windows.{base-last, base-mono, base-same}
+use Rattle.state.proofs.Stacks.{marked-end, gone-end, closed-end, grown-mark, grown-end}
+use Rattle.fitness.specs.Facts.{Stack, Valid, Fit}
+use Rattle.fitness.proofs.Facts.{running-fits, finished-fits, error-fits}
 use Rattle.reach.specs.Suits.{Suits}
-use Rattle.vm.specs.Step.{Turn, on, stop, fault, placed, marked, calleeOf, callerOf, called, enterOf, backOf, leaveOf, carriedOut}
+use Rattle.step.specs.Step.{Turn, on, stop, fault, placed, marked, calleeOf, callerOf, called, enterOf, backOf, leaveOf, carriedOut}
 use Rattle.laws.specs.Holds.{Holds}
-use Rattle.laws.specs.Statements.{LuaError, operator, call}
-use Rattle.laws.proofs.Choices.{cond-cases}
-use Rattle.laws.proofs.Windows.{Valid, valid-less, valid-at, put-keep, length-window, length-fill, fewer-left, fill-keep, window-grow, window-keep}
-use Rattle.laws.proofs.Facts.{running-fits, Stack, Fit}
-use Rattle.laws.proofs.Frames.{same-low, prototype-gone}
-use Rattle.laws.proofs.Stacks.{base-suc, there-prototype, there-instruction, depth-mark, mark-mark, base-mark, stack-mark, mark-pop, base-pop, base-less, stack-pop, depth-gone, mark-gone, base-gone, place-gone, stack-gone, mark-grown, base-grown, stack-grown}
+use Rattle.laws.specs.Statements.{LuaError}
+use Rattle.laws.proofs.Windows.{valid-less, valid-at, put-keep, length-window, length-fill, fewer-left, fill-keep, window-grow, window-keep}
+use Rattle.laws.proofs.Frames.{there-prototype, there-instruction}
+use Rattle.laws.proofs.Stacks.{stack-mark, stack-pop, stack-gone, stack-grown}
+use Rattle.laws.proofs.Marks.{Halts, finished, failed}
 use Rattle.laws.proofs.Bounds.{few-instructions}
 use Rattle.laws.proofs.Naming.{Tells}
 use Rattle.laws.proofs.Moves.{following-small, placed-there}
-
--- 0 or a Lua error's number
-pub data Halts : ℕ → Type 0 where
-  finished : Halts 0
-  failed : {n : ℕ} → LuaError n → Halts n
 
 pub record Running (S : Storage) (s : State) : Type 0 where
   pub fit : Fit S s
@@ -54,29 +57,6 @@ abbrev pub Stays : Storage → Turn → Type 0
 Stays S (on t) = Running S t
 Stays S (stop n t) = Halted S n t
 Stays S (fault t) = ⊥
-
--- ---- marks
-
-pub error-fits : (n : ℕ) → LuaError n → markFits n ≡ true
-unfolding markFits
-error-fits n (operator h g) = rw (ne-eqb n 70 (λ e. omega arith), ne-eqb n 0 (λ e. omega arith), le-leb 30 n h, le-leb n 44 g)
-error-fits n (call h g) =
-    rw (
-      ne-eqb n 70 (λ e. omega arith),
-      ne-eqb n 0 (λ e. omega arith),
-      le-leb 30 n (omega arith),
-      lt-leb n 44 (omega arith),
-      le-leb 50 n h,
-      le-leb n 52 (omega arith),
-    )
-
-error-some : (n : ℕ) → LuaError n → n ≡ 0 → ⊥
-error-some n (operator h g) e = omega arith
-error-some n (call h g) e = omega arith
-
-finished-fits : markFits 0 ≡ true
-unfolding markFits
-finished-fits = refl
 
 -- a function's prototype is there
 function-known : (t c : List ℕ) (k w : ℕ) → valueFits t c k w ≡ true → k ≡ 5 → w < prototypesOf t
@@ -120,13 +100,13 @@ module _ (S : Storage) (s : State) (h : Fit S s) (runs : markIn (s .frames) ≡ 
 
   -- the live registers end where the innermost window does
   end : baseOf t f d ≡ base + registersOf t q
-  end = let o = st .some in base-suc t f d (d - 1) (omega arith)
+  end = base-last t f d (st .steady .some)
 
   -- ---- an error, and the outermost Return
 
   fails : (n : ℕ) → LuaError n → Halted S n (marked n s)
   fails n e =
-      let mm : markIn (markWith n f) ≡ n = mark-mark t (S .code) f n st in
+      let mm : markIn (markWith n f) ≡ n = mark-mark f n (st .steady .long) in
       record {
         fit = record {
           lent = h .lent;
@@ -134,24 +114,22 @@ module _ (S : Storage) (s : State) (h : Fit S s) (runs : markIn (s .frames) ≡ 
           kinds-long = h .kinds-long;
           words-long = h .words-long;
           mark = rw mm (error-fits n e);
-          stack = stack-mark t (S .code) f n st;
+          stack = stack-mark t (S .code) f st n;
           closed = (λ z. absurd (error-some n e (sym mm ∙ z)));
-          valid = rw (base-mark t (S .code) f n st) (h .valid);
+          valid = rw (marked-end t f n) (h .valid);
         };
         mark = mm;
         halts = failed e;
       }
 
-  returns-at : d ≡ 1 → isReturn here ≡ true → isReturn (decodedAt t (S .code) (prototypeIn f 0) (instructionIn f 0)) ≡ true
+  returns-at : d ≡ 1 → isReturn (classOf here) ≡ true → isReturn (classOf (decodedAt t (S .code) (prototypeIn f 0) (instructionIn f 0))) ≡ true
   returns-at e r = let z : d - 1 ≡ 0 = omega arith in rw z at r
 
-  finishes : d ≤ 1 → isReturn here ≡ true → Halted S 0 (marked 0 s)
+  finishes : d ≤ 1 → isReturn (classOf here) ≡ true → Halted S 0 (marked 0 s)
   finishes one r =
-      let mm : markIn (markWith 0 f) ≡ 0 = mark-mark t (S .code) f 0 st in
-      let dm : depthIn (markWith 0 f) ≡ d = depth-mark t (S .code) f 0 st in
-      let o = st .some in
-      let e : d ≡ 1 = omega arith in
-      let same = same-low f 0 0 (omega arith) 0 in
+      let mm : markIn (markWith 0 f) ≡ 0 = mark-mark f 0 (st .steady .long) in
+      let e : d ≡ 1 = omega (arith, st .steady .some) in
+      let same = mark-same f 0 0 in
       record {
         fit = record {
           lent = h .lent;
@@ -159,9 +137,9 @@ module _ (S : Storage) (s : State) (h : Fit S s) (runs : markIn (s .frames) ≡ 
           kinds-long = h .kinds-long;
           words-long = h .words-long;
           mark = rw mm finished-fits;
-          stack = stack-mark t (S .code) f 0 st;
-          closed = (λ z. (dm ∙ e, rw (same .prototype, same .instruction) (returns-at e r)));
-          valid = rw (base-mark t (S .code) f 0 st) (h .valid);
+          stack = stack-mark t (S .code) f st 0;
+          closed = (λ z. (mark-depth f 0 ∙ e, rw (same .prototype, same .instruction) (returns-at e r)));
+          valid = rw (marked-end t f 0) (h .valid);
         };
         mark = mm;
         halts = finished;
@@ -170,10 +148,10 @@ module _ (S : Storage) (s : State) (h : Fit S s) (runs : markIn (s .frames) ≡ 
   -- ---- registers change, and the innermost activation goes on
 
   moved :
-      (k w : List ℕ) (x : ℕ) → x < instructionsOf t q → 2308 ≤ length k → 2308 ≤ length w → Valid t (S .kinds) (baseOf t f d) k w
+      (k w : List ℕ) (x : ℕ) → x < instructionsOf t q → registersSize ≤ length k → registersSize ≤ length w → Valid t (S .kinds) (baseOf t f d) k w
       → Running S (state (instructionWith (d - 1) x f) k w)
   moved k w x to lk lw v =
-      let mg : markIn (instructionWith (d - 1) x f) ≡ 70 = mark-gone t (S .code) f x st to ∙ runs in
+      let mg : markIn (instructionWith (d - 1) x f) ≡ 70 = gone-mark f (d - 1) x ∙ runs in
       record {
         fit = record {
           lent = h .lent;
@@ -181,9 +159,9 @@ module _ (S : Storage) (s : State) (h : Fit S s) (runs : markIn (s .frames) ≡ 
           kinds-long = lk;
           words-long = lw;
           mark = rw mg running-fits;
-          stack = stack-gone t (S .code) f x st to;
+          stack = stack-gone t (S .code) f st x to;
           closed = (λ e. absurd (let z = sym mg ∙ e in omega arith));
-          valid = rw (depth-gone t (S .code) f x st to) (rw (base-gone t (S .code) f x st to d) v);
+          valid = rw (gone-end t f (d - 1) x) v;
         };
         runs = mg;
       }
@@ -192,7 +170,7 @@ module _ (S : Storage) (s : State) (h : Fit S s) (runs : markIn (s .frames) ≡ 
 
   module _
       (demanded : Demanded S) (function arguments : ℕ) (given : function + 1 + arguments ≤ registersOf t q) (next : p + 1 < instructionsOf t q)
-      (calls : isCall here ≡ true) where
+      (calls : isCall (classOf here) ≡ true) where
     abbrev gone : List ℕ
     gone = instructionWith (d - 1) (p + 1) f
 
@@ -201,7 +179,12 @@ module _ (S : Storage) (s : State) (h : Fit S s) (runs : markIn (s .frames) ≡ 
     unfolding waitsIn beforeIn
     waiting =
         let e : p + 1 - 1 ≡ p = omega arith in
-        rw (place-gone t (S .code) f (p + 1) st next, prototype-gone f (d - 1) (p + 1) (d - 1), ne-eqb (p + 1) 0 (λ z. omega arith), e) calls
+        rw (
+          gone-instruction f (d - 1) (p + 1) (omega (arith, st .steady .some, st .steady .few)) (st .steady .long),
+          gone-prototype f (d - 1) (p + 1) (d - 1),
+          ne-eqb (p + 1) 0 (λ z. omega arith),
+          e,
+        ) calls
 
     -- the prototype that is called
     abbrev r : ℕ
@@ -227,22 +210,21 @@ module _ (S : Storage) (s : State) (h : Fit S s) (runs : markIn (s .frames) ≡ 
     called-as : d < 16 → called t a s function arguments (calleeOf t a r) ≡ opened
     unfolding called placed
     called-as few =
-        let o = st .some in
-        let there = st .there (d - 1) (omega arith) in
+        let there = st .there (d - 1) (omega (arith, st .steady .some)) in
         let i = there-instruction t f (d - 1) there in
         let n = few-instructions S (h .reads) q (there-prototype t f (d - 1) there) in
         rw (following-small d (omega arith), following-small p (omega arith))
 
     enters : getD (s .kinds) (base + function) 0 ≡ 5 → d < 16 → base + registersOf t q + size ≤ 2048 → Running S opened
     enters fn few fits =
-        let stg = stack-gone t (S .code) f (p + 1) st next in
-        let ed = depth-gone t (S .code) f (p + 1) st next in
-        let eb : baseOf t gone d ≡ base + registersOf t q = base-gone t (S .code) f (p + 1) st next d ∙ end in
+        let stg = stack-gone t (S .code) f st (p + 1) next in
+        let ed : d ≡ depthIn gone = sym (gone-depth f (d - 1) (p + 1)) in
+        let eb : baseOf t gone d ≡ base + registersOf t q = base-same t f gone d (λ i _. gone-prototype f (d - 1) (p + 1) i) ∙ end in
         let fb : baseOf t gone d + size ≤ 2048 = omega arith in
         let some = demanded .each r (known fn) .some in
         let more : 0 < instructionsOf t r = omega (arith, some) in
         let mg : markIn (depthWith (d + 1) (openedWith d r gone)) ≡ 70 =
-        mark-grown t (S .code) gone d r stg ed few waiting (known fn) more fb ∙ mark-gone t (S .code) f (p + 1) st next ∙ runs in
+        grown-mark t gone d r (stg .steady) ed few ∙ gone-mark f (d - 1) (p + 1) ∙ runs in
         let ll : taken ≤ arguments = fewer-left arguments (parametersOf t r) in
         let lk = h .kinds-long in
         let lw = h .words-long in
@@ -253,9 +235,9 @@ module _ (S : Storage) (s : State) (h : Fit S s) (runs : markIn (s .frames) ≡ 
             kinds-long = rw length-window lk;
             words-long = rw length-window lw;
             mark = rw mg running-fits;
-            stack = stack-grown t (S .code) gone d r stg ed few waiting (known fn) more fb;
+            stack = stack-grown t (S .code) gone stg d r ed few waiting (known fn) more fb;
             closed = (λ e. absurd (let z = sym mg ∙ e in omega arith));
-            valid = rw (base-grown t (S .code) gone d r stg ed few waiting (known fn) more fb, eb)
+            valid = rw (grown-end t gone d r (stg .steady) ed few, eb)
                 (window-grow t (S .kinds) (base + registersOf t q) (base + (function + 1)) taken size (s .kinds) (s .words) (omega arith)
                 (rw end at (h .valid)) (omega arith) (omega arith));
           };
@@ -268,13 +250,13 @@ module _ (S : Storage) (s : State) (h : Fit S s) (runs : markIn (s .frames) ≡ 
     entered fn few fits = rw (called-as few) (enters fn few fits)
 
     enter-stays : Stays S (enterOf t a s function arguments)
-    unfolding enterOf
+    unfolding enterOf isLuaError
     enter-stays =
         cond-cases (Stays S) (eqb (getD (s .kinds) (base + function) 0) 5) _ _
-        (λ fn. cond-cases (Stays S) (leb 16 d) _ _ (λ _. fails 51 (call (omega arith) (omega arith)))
-        (λ few. cond-cases (Stays S) (ltb 2048 (base + registersOf t q + size)) _ _ (λ _. fails 52 (call (omega arith) (omega arith)))
+        (λ fn. cond-cases (Stays S) (leb 16 d) _ _ (λ _. fails 51 refl)
+        (λ few. cond-cases (Stays S) (ltb 2048 (base + registersOf t q + size)) _ _ (λ _. fails 52 refl)
         (λ fits. entered (eqb-true _ _ fn) (leb-false _ _ few) (ltb-false _ _ fits))))
-        (λ _. fails 50 (call (omega arith) (omega arith)))
+        (λ _. fails 50 refl)
 
   -- ---- Return
 
@@ -284,11 +266,11 @@ module _ (S : Storage) (s : State) (h : Fit S s) (runs : markIn (s .frames) ≡ 
         → Running S
         (state (depthWith (d - 1) f) (windowOf (s .kinds) (base + start) dst n asked) (windowOf (s .words) (base + start) dst n asked))
     returned deep dst asked =
-        let mp : markIn (depthWith (d - 1) f) ≡ 70 = mark-pop t (S .code) f st deep ∙ runs in
+        let mp : markIn (depthWith (d - 1) f) ≡ 70 = depth-mark f (d - 1) ∙ runs in
         let lk = h .kinds-long in
         let lw = h .words-long in
         let b = end in
-        let i = st .inside in
+        let i = st .steady .ends in
         record {
           fit = record {
             lent = h .lent;
@@ -298,8 +280,8 @@ module _ (S : Storage) (s : State) (h : Fit S s) (runs : markIn (s .frames) ≡ 
             mark = rw mp running-fits;
             stack = stack-pop t (S .code) f st deep;
             closed = (λ e. absurd (let z = sym mp ∙ e in omega arith));
-            valid = rw (base-pop t (S .code) f st deep)
-                (valid-less t (S .kinds) (baseOf t f d) (baseOf t f (d - 1)) _ _ (base-less t (S .code) f st deep)
+            valid = rw (closed-end t f (st .steady) deep)
+                (valid-less t (S .kinds) (baseOf t f d) (baseOf t f (d - 1)) _ _ (base-mono t f (d - 1) d (omega arith))
                 (window-keep t (S .kinds) (baseOf t f d) (base + start) n asked (s .kinds) (s .words) (omega arith) (h .valid) dst
                 (omega arith) (omega arith)));
           };
@@ -309,34 +291,22 @@ module _ (S : Storage) (s : State) (h : Fit S s) (runs : markIn (s .frames) ≡ 
     abbrev b : Activation
     b = callerOf t f a
 
-    back-stays : 1 < d → (i : Instruction) → isCall i ≡ true → Stays S (backOf a b s start n i)
+    back-stays : 1 < d → (c : Class) → isCall c ≡ true → Stays S (backOf a b s start n c)
     unfolding backOf
-    back-stays deep (instruction.Call function arguments asked) e = returned deep (b .base + function) asked
-    back-stays deep (instruction.Unary u x y) e = absurd (false≢true e)
-    back-stays deep (instruction.LoadConstant x c) e = absurd (false≢true e)
-    back-stays deep (instruction.LoadBool x v y) e = absurd (false≢true e)
-    back-stays deep (instruction.LoadNil x m) e = absurd (false≢true e)
-    back-stays deep (instruction.Return x m) e = absurd (false≢true e)
-    back-stays deep (instruction.Jump x) e = absurd (false≢true e)
-    back-stays deep (instruction.Test x v) e = absurd (false≢true e)
-    back-stays deep (instruction.TestSet x y v) e = absurd (false≢true e)
-    back-stays deep (instruction.Closure x y) e = absurd (false≢true e)
-    back-stays deep (instruction.NumericForPrep x y) e = absurd (false≢true e)
-    back-stays deep (instruction.NumericForLoop x y) e = absurd (false≢true e)
-    back-stays deep (instruction.Compare c v x y) e = absurd (false≢true e)
-    back-stays deep (instruction.Binary o x y z) e = absurd (false≢true e)
-    back-stays deep (instruction.Bad m) e = absurd (false≢true e)
+    back-stays deep (Calls function asked) e = returned deep (b .base + function) asked
+    back-stays deep (Returns x m) e = absurd (false≢true e)
+    back-stays deep Other e = absurd (false≢true e)
 
     -- the caller stands after a Call
-    caller : 1 < d → isCall (beforeIn t (S .code) f (d - 2)) ≡ true
+    caller : 1 < d → isCall (classOf (beforeIn t (S .code) f (d - 2))) ≡ true
     unfolding waitsIn
     caller deep = st .waits (d - 2) (omega arith)
 
-    leave-stays : isReturn here ≡ true → Stays S (leaveOf t (S .code) a s start n)
+    leave-stays : isReturn (classOf here) ≡ true → Stays S (leaveOf t (S .code) a s start n)
     unfolding leaveOf
     leave-stays r =
         cond-cases (Stays S) (leb d 1) _ _ (λ one. finishes (leb-true _ _ one) r)
-        (λ deep. back-stays (leb-false _ _ deep) (beforeIn t (S .code) f (d - 2)) (caller (leb-false _ _ deep)))
+        (λ deep. back-stays (leb-false _ _ deep) (classOf (beforeIn t (S .code) f (d - 2))) (caller (leb-false _ _ deep)))
 
   -- ---- an effect a line
 
@@ -345,7 +315,7 @@ module _ (S : Storage) (s : State) (h : Fit S s) (runs : markIn (s .frames) ≡ 
   applied demanded (Set r k w go) u v n =
       let lk = h .kinds-long in
       let lw = h .words-long in
-      let i = st .inside in
+      let i = st .steady .ends in
       moved _ _ _ (placed-there a (instructionsOf t q) go (u .1)) (rw length-set lk) (rw length-set lw)
       (put-keep t (S .kinds) (baseOf t f d) (base + r) k w (s .kinds) (s .words) (omega arith) (omega arith) v (h .valid))
   applied demanded (Goto go) u v n =
@@ -353,18 +323,18 @@ module _ (S : Storage) (s : State) (h : Fit S s) (runs : markIn (s .frames) ≡ 
   applied demanded (Clear r m) u v n =
       let lk = h .kinds-long in
       let lw = h .words-long in
-      let i = st .inside in
+      let i = st .steady .ends in
       moved _ _ _ (placed-there a (instructionsOf t q) Next (u .1)) (rw length-fill lk) (rw length-fill lw)
       (fill-keep t (S .kinds) m (base + r) (baseOf t f d) (s .kinds) (s .words) (omega arith) (omega arith) (h .valid))
   applied demanded (Loop r k w to) u v n =
       let lk = h .kinds-long in
       let lw = h .words-long in
-      let i = st .inside in
+      let i = st .steady .ends in
       moved _ _ _ (placed-there a (instructionsOf t q) (To to) (u .1)) (simp length-set lk) (simp length-set lw)
       (put-keep t (S .kinds) (baseOf t f d) (base + (r + 3)) k w (set (s .kinds) (base + r) k) (set (s .words) (base + r) w)
       (rw length-set (omega arith)) (rw length-set (omega arith)) v
       (put-keep t (S .kinds) (baseOf t f d) (base + r) k w (s .kinds) (s .words) (omega arith) (omega arith) v (h .valid)))
   applied demanded (Enter function arguments) u v n = enter-stays demanded function arguments (u .0) (u .1) n
   applied demanded (Leave start m) u v n = leave-stays start m u n
-  applied demanded (Fail m) u v n = fails m (operator (u .0) (u .1))
+  applied demanded (Fail m) u v n = fails m u
   applied demanded Fault u v n = absurd n

@@ -5,7 +5,7 @@ use mathlib.Core.Bool.{Bool, true, false, cond, Bool·beq}
 use mathlib.Core.List.{List}
 use lib.ListN.{getD}
 use borrow.Author.Tests.{lt-ltb}
-use Rattle.image.proofs.Cases.{pick-cases}
+use Rattle.choices.proofs.Choices.{cond-cases}
 use Rattle.storage.specs.Layout.{Storage, longEnough}
 use Rattle.storage.specs.Fields.{prototypesOf, registersOf, instructionsOf}
 use Rattle.storage.specs.Stored.{readsBack}
@@ -56,7 +56,7 @@ module _ (S : Storage) where
 
     test-set-holds : (dest : ℕ) (byte : Bool) → Holds S (testSetEffect dest byte kind word)
     unfolding testSetEffect
-    test-set-holds dest byte = pick-cases (Holds S) (Bool·beq (truth (valueOf kind word)) byte) _ _ (λ e. tt) (λ e. fits)
+    test-set-holds dest byte = cond-cases (Holds S) (Bool·beq (truth (valueOf kind word)) byte) _ _ (λ e. tt) (λ e. fits)
 
   -- of those that put nothing into a register
   skip-holds : (b byte : Bool) → Holds S (skipIf b byte)

@@ -9,11 +9,12 @@ use lib.Dec.{eqb}
 use lib.ListN.{length, getD, set, length-set}
 use lib.Seq.{getD-set-same, getD-set-other}
 use Rattle.slices.specs.Ranges.{copyWithin, copyFrom, fillOf}
-use Rattle.image.proofs.Cases.{by-bool}
-use Rattle.activation.specs.Window.{fewer, windowOf, windowFrom}
-use Rattle.activation.proofs.Windows.{fewer-first, fewer-within}
+use Rattle.choices.proofs.Choices.{by-bool}
+use Rattle.state.specs.Window.{fewer, windowOf, windowFrom}
+use Rattle.state.proofs.Windows.{fewer-first, fewer-within}
 use Rattle.constant.specs.Values.{isValue}
 use Rattle.fitness.specs.Fit.{valueFits, registerFits}
+use Rattle.fitness.specs.Facts.{Valid}
 
 -- ---- lengths stay
 
@@ -47,10 +48,6 @@ pub fewer-right : (a b : ℕ) → fewer a b ≤ b
 fewer-right a b = fewer-within a b (fewer a b) refl
 
 -- ---- registers that hold values
-
--- each of the m lowest registers holds a value of the image with this table and these constants
-unfoldable pub Valid : List ℕ → List ℕ → ℕ → List ℕ → List ℕ → Type 0
-Valid t c m k w = (j : ℕ) → j < m → registerFits t c k w j ≡ true
 
 module _ (t c : List ℕ) where
   pub nil-fits : valueFits t c 0 0 ≡ true

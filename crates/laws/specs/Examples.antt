@@ -5,7 +5,8 @@ use lib.ListN.{replicate}
 use Rattle.image.specs.Instruction.{packed}
 use Rattle.image.specs.Frames.{F, opens, code, ends}
 use Rattle.storage.specs.Layout.{Storage, storage, tableSize, codeSize, constantSize, textSize, contentsOf, laidIn}
-use Rattle.fitness.specs.Fit.{State, state, registersSize}
+use Rattle.state.specs.Frames.{markWith, depthWith}
+use Rattle.state.specs.States.{State, state, framesSize, registersSize}
 
 -- what an image of n prototypes with these frames reads to, in slices of the published sizes that held zeros
 abbrev pub readFrom : ℕ → List F → Storage
@@ -16,7 +17,7 @@ readFrom n frames =
 
 -- running at instruction 0 of prototype 0, as a start would leave it
 abbrev pub running : State
-running = state (70 ∷ 1 ∷ replicate 32 0) (replicate registersSize 0) (replicate registersSize 0)
+running = state (depthWith 1 (markWith 70 (replicate framesSize 0))) (replicate registersSize 0) (replicate registersSize 0)
 
 -- Closure, Call, Return; prototype 1 has no instruction, so the checker refuses the image
 abbrev pub hollow : Storage

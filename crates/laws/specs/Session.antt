@@ -10,7 +10,7 @@ use Rattle.storage.specs.Layout.{Storage, contentsOf, laid, laidIn, longEnough}
 use Rattle.reader.specs.Reading.{Read}
 use Rattle.writer.specs.Writing.{Written}
 use Rattle.writer.specs.declared.Wrote.the-variants.{Bytes}
-use Rattle.fitness.specs.Fit.{State, stateLong}
+use Rattle.state.specs.States.{State, stateLong}
 use Rattle.starter.specs.Start.{begun}
 use Rattle.laws.specs.Statements.{Begun, Resumable}
 

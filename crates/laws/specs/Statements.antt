@@ -16,10 +16,12 @@ use Rattle.writer.specs.declared.Wrote.the-variants.{Bytes}
 use Rattle.checker.specs.Check.{checkOf}
 use Rattle.checker.specs.Kept.{Demanded, FirstBad}
 use Rattle.checker.specs.declared.Checked.the-variants.{Accepted, Refused}
-use Rattle.fitness.specs.Fit.{State, fitOf}
-use Rattle.vm.specs.Step.{on, stop, fault, stepOf}
-use Rattle.vm.specs.Run.{Ended, ended, outcome, answerOf, standingOf, runOf}
-use Rattle.vm.specs.declared.Outcome.{Outcome}
+use Rattle.fitness.specs.Fit.{fitOf}
+use Rattle.state.specs.Marks.{isLuaError}
+use Rattle.state.specs.States.{State}
+use Rattle.step.specs.Step.{on, stop, fault, stepOf}
+use Rattle.step.specs.Run.{Ended, ended, outcome, answerOf, standingOf, runOf}
+use Rattle.step.specs.declared.Outcome.{Outcome}
 use Rattle.starter.specs.Start.{startOf, started}
 
 -- ---- demand 2: "An accepted image, written back, gives the same bytes."
@@ -69,9 +71,8 @@ StaysFit =
 -- ---- how a run ends: "Numbers the machine answers"
 
 -- "30-44 operator error", "50, 51, 52"
-pub data LuaError : ℕ → Type 0 where
-  operator : {n : ℕ} → 30 ≤ n → n ≤ 44 → LuaError n
-  call : {n : ℕ} → 50 ≤ n → n ≤ 52 → LuaError n
+abbrev pub LuaError : ℕ → Type 0
+LuaError n = isLuaError n ≡ true
 
 pub data Ends (budget : ℕ) (o : Outcome) : Type 0 where
   -- "0 outermost Return done"

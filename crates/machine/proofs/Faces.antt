@@ -5,7 +5,7 @@ use mathlib.Core.List.{List}
 use lib.ListN.{length, set}
 use lib.Dec.{leb}
 use borrow.Author.Tests.{le-leb, lt-leb}
-use Rattle.image.specs.Hex.{pick}
+use mathlib.Core.Bool.{cond}
 use Rattle.image.specs.declared.Judged.{Judged}
 use Rattle.storage.specs.Layout.{Storage}
 use Rattle.reader.specs.Reading.{Read}
@@ -13,23 +13,24 @@ use Rattle.writer.specs.Writing.{Written}
 use Rattle.writer.specs.declared.Wrote.{Wrote}
 use Rattle.checker.specs.Check.{checkOf}
 use Rattle.checker.specs.declared.Checked.{Checked}
-use Rattle.fitness.specs.Fit.{State}
+use Rattle.state.specs.States.{State}
 use Rattle.starter.specs.Start.{started, startOf}
-use Rattle.vm.specs.Run.{ended, runOf}
-use Rattle.vm.specs.declared.Outcome.{Outcome}
+use Rattle.step.specs.Run.{outcome, ended, runOf}
+use Rattle.step.specs.declared.Outcome.{Outcome}
 use Rattle.machine.specs.Answers.{readAnswer, writeAnswer, checkAnswer}
 use Rattle.machine.specs.Results.{returnedOf, spanOf}
 use Rattle.machine.specs.Face.{Said, said, tells, tells5, tells6, saying, saying5, saying6, left, bytesOf, returnedAnswer, textAnswer, dmRead, dmWrite, dmCheck, dmStart, dmRun, dmReturned, dmText}
 use Rattle.machine.specs.declared.Values.{Values}
 use Rattle.machine.specs.declared.Span.{Span}
+use Rattle.machine.specs.declared.Span.the-variants as span
 
 -- ---- the test of `answer`'s length
 
 module _ {X : Type 0} (l : List ℕ) (full refusal : X) where
-  too-short : length l < 8 → refusal ≡ pick (leb 8 (length l)) full refusal
+  too-short : length l < 8 → refusal ≡ cond (leb 8 (length l)) full refusal
   too-short h = rw (lt-leb _ _ h)
 
-  long : 8 ≤ length l → (x : X) → x ≡ full → x ≡ pick (leb 8 (length l)) full refusal
+  long : 8 ≤ length l → (x : X) → x ≡ full → x ≡ cond (leb 8 (length l)) full refusal
   long h x e = rw (le-leb _ _ h) e
 
 both : {L : Type 0} (s t : Said) (x y : L) → s ≡ t → x ≡ y → left s x ≡ left t y
@@ -154,3 +155,14 @@ module _ (o : Outcome) (l : List ℕ) where
       (x z n : ℕ) (a : List ℕ) → said n a ≡ saying5 o x l → (y : ℕ) → y ≡ z % 2 ^ 32 → (m : List ℕ) → m ≡ set a 5 y → said n m ≡ saying6 o x z l
   unfolding tells6
   told-six x z n a e y f m g = rw (g, f, answers _ _ e, numbers _ _ e)
+
+-- ---- a string's place, told
+
+module _ (l l′ : List ℕ) (number : ℕ) (o : Outcome) (r : Span) where
+  pub span-told :
+      (start n : ℕ) → r ≡ span.At start n → o ≡ outcome 0 0 0 0 → said number l′ ≡ saying6 o start n l → said number l′ ≡ textAnswer r l
+  span-told start n e f h = rw e (rw f at h)
+
+  pub refusal-told :
+      (k : ℕ) → r ≡ span.Refused k → o ≡ outcome k 0 0 0 → said number l′ ≡ saying6 o 0 0 l → said number l′ ≡ textAnswer r l
+  refusal-told k e f h = rw e (rw f at h)

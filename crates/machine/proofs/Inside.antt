@@ -1,5 +1,5 @@
 -- What a host is told lies inside what was lent: a string's place within the texts, and returned values within the registers. Assumes nothing.
-use Prim.Native.Nat.{ℕ, zero, suc, _+_, _-_, _*_, _/_, _%_, _≤_, _<_}
+use Prim.Native.Nat.{ℕ, _+_, _-_, _*_, _/_, _%_, _≤_, _<_}
 use native.Mathlib.Omega.{arith}
 use mathlib.Core.Path.{_≡_}
 use mathlib.Core.Bool.{true}
@@ -10,7 +10,7 @@ use borrow.Author.Tests.{eqb-true, eqb-false, ltb-true}
 use Rattle.image.specs.Frames.{F, opens, const, str, code, shape}
 use Rattle.image.specs.declared.Counts.{Counts}
 use Rattle.image.specs.declared.Step.the-variants.{On, Done}
-use Rattle.image.proofs.Cases.{by-bool, pick-cases}
+use Rattle.choices.proofs.Choices.{by-bool, cond-cases, and-right, and-left}
 use Rattle.image.proofs.Said.{Said, AllSaid, more}
 use Rattle.image.proofs.Trip.{accepted-said}
 use Rattle.storage.specs.Layout.{Storage, longEnough, textsOf, textsAll}
@@ -24,19 +24,20 @@ use Rattle.storage.proofs.Lies.{Stands, all, lies-rest}
 use Rattle.storage.proofs.Seen.{Constant, end-seen, word-seen, text-seen}
 use Rattle.storage.proofs.Reading.{reads-frames}
 use Rattle.storage.proofs.Six.{readable}
-use Rattle.checker.proofs.Bools.{and-right}
 use Rattle.checker.specs.Check.{limitsOf}
 use Rattle.checker.specs.declared.Limits.{Limits}
-use Rattle.checker.specs.declared.Instruction.{Instruction}
-use Rattle.checker.specs.declared.Instruction.the-variants as instruction
-use Rattle.activation.specs.Frames.{depthIn, prototypeIn, baseOf}
-use Rattle.fitness.specs.Fit.{State, fitOf, decodedAt}
-use Rattle.fitness.proofs.Tests.{and-left}
-use Rattle.reach.specs.Within.{Within}
-use Rattle.reach.proofs.Decoding.{decoded-within}
-use Rattle.vm.specs.Run.{answerOf, standingOf}
-use Rattle.vm.specs.declared.Outcome.{Outcome}
-use Rattle.vm.proofs.Runs.{fit-steady}
+use Rattle.checker.specs.Decode.{classOf}
+use Rattle.checker.specs.declared.Class.{Class}
+use Rattle.checker.specs.declared.Class.the-variants.{Calls, Returns, Other}
+use Rattle.state.specs.Frames.{depthIn}
+use Rattle.state.proofs.Windows.{base-last}
+use Rattle.fitness.specs.Fit.{fitOf, decodedAt}
+use Rattle.state.specs.States.{State}
+use Rattle.reach.specs.Within.{ClassWithin}
+use Rattle.reach.proofs.Decoding.{decoded-within, class-within}
+use Rattle.step.specs.Run.{answerOf, standingOf}
+use Rattle.step.specs.declared.Outcome.{Outcome}
+use Rattle.step.proofs.Runs.{fit-steady}
 use Rattle.machine.specs.Results.{named, returnedOf, isString, spanOf}
 use Rattle.machine.specs.declared.Span.{Span}
 use Rattle.machine.specs.declared.Span.the-variants.{At, Refused}
@@ -128,9 +129,9 @@ module _ (S : Storage) (word : ℕ) where
   pub span-inside : Fine (spanOf S word)
   unfolding spanOf
   span-inside =
-      pick-cases Fine (longEnough S) _ _
-      (λ a. pick-cases Fine (readsBack S) _ _
-      (λ b. pick-cases Fine (isString S word) _ _
+      cond-cases Fine (longEnough S) _ _
+      (λ a. cond-cases Fine (readsBack S) _ _
+      (λ b. cond-cases Fine (isString S word) _ _
       (λ c from n e. let h = string-inside b c in
       let x : getD (S .words) word 0 / 65536 ≡ from = cc in
       let y : getD (S .words) word 0 % 65536 ≡ n = cc in
@@ -141,30 +142,12 @@ module _ (S : Storage) (word : ℕ) where
 
 -- ---- returned values
 
-module _ (l : Limits) (p : ℕ) (o : Outcome) where
-  named-inside : (i : Instruction) → Within l p i → (named o i) .first + (named o i) .count ≤ l .registers
-  unfolding named
-  named-inside (instruction.Unary u d s) h = omega arith
-  named-inside (instruction.LoadConstant d c) h = omega arith
-  named-inside (instruction.LoadBool d b n) h = omega arith
-  named-inside (instruction.LoadNil d n) h = omega arith
-  named-inside (instruction.Call f a r) h = omega arith
-  named-inside (instruction.Return s n) h = h
-  named-inside (instruction.Jump t) h = omega arith
-  named-inside (instruction.Test r b) h = omega arith
-  named-inside (instruction.TestSet d r b) h = omega arith
-  named-inside (instruction.Closure d q) h = omega arith
-  named-inside (instruction.NumericForPrep b t) h = omega arith
-  named-inside (instruction.NumericForLoop b t) h = omega arith
-  named-inside (instruction.Compare c b x y) h = omega arith
-  named-inside (instruction.Binary b d x y) h = omega arith
-  named-inside (instruction.Bad n) h = omega arith
-
--- the innermost window ends where the last one does
-last-window : (table frames : List ℕ) (d : ℕ) → 1 ≤ d → registersOf table (prototypeIn frames (d - 1)) ≤ baseOf table frames d
-unfolding baseOf
-last-window table frames zero h = absurd (omega arith)
-last-window table frames (suc d) h = let e : suc d - 1 ≡ d = omega arith in rw e (omega arith)
+named-inside :
+    (l : Limits) (o : Outcome) (c : Class) → ClassWithin l c → (named o c) .first + (named o c) .count ≤ l .registers
+unfolding named
+named-inside l o (Calls f r) h = omega arith
+named-inside l o (Returns s n) h = h
+named-inside l o Other h = omega arith
 
 module _ (S : Storage) (s : State) where
   standing-window : (standingOf S s) .number ≡ 0 → registersOf (S .table) ((standingOf S s) .prototype) ≤ 2048
@@ -172,13 +155,16 @@ module _ (S : Storage) (s : State) where
   standing-window =
       by-bool (fitOf S s)
       (λ f. rw f (λ n. let y = fit-steady S s f in
-      omega (arith, y .ends, last-window (S .table) (s .frames) (depthIn (s .frames)) (y .some))))
+      omega (arith, y .ends, base-last (S .table) (s .frames) (depthIn (s .frames)) (y .some))))
       (λ f. rw f (λ n. absurd (omega arith)))
 
   pub values-inside : (returnedOf S s) .first + (returnedOf S s) .count ≤ 2048
   unfolding returnedOf
   values-inside =
       let o = standingOf S s in
+      let i = decodedAt (S .table) (S .code) (o .prototype) (o .instruction) in
+      let l = limitsOf (S .table) (o .prototype) in
+      let w = class-within l (o .instruction) i (decoded-within (S .table) (S .code) (o .prototype) (o .instruction)) in
       by-bool (eqb (o .number) 0)
-      (λ n. rw n (omega (arith, named-inside (limitsOf (S .table) (o .prototype)) (o .instruction) o (decodedAt (S .table) (S .code) (o .prototype) (o .instruction)) (decoded-within (S .table) (S .code) (o .prototype) (o .instruction)), standing-window (eqb-true _ _ n))))
+      (λ n. rw n (omega (arith, named-inside l o (classOf i) w, standing-window (eqb-true _ _ n))))
       (λ n. rw n (omega arith))

@@ -6,8 +6,8 @@ use Rattle.writer.specs.declared.Wrote.{Wrote}
 use Rattle.writer.specs.declared.Wrote.the-variants as wrote
 use Rattle.checker.specs.declared.Checked.{Checked}
 use Rattle.checker.specs.declared.Checked.the-variants as checked
-use Rattle.vm.specs.Run.{outcome}
-use Rattle.vm.specs.declared.Outcome.{Outcome}
+use Rattle.step.specs.Run.{outcome}
+use Rattle.step.specs.declared.Outcome.{Outcome}
 
 abbrev pub readAnswer : Judged → Outcome
 readAnswer (judged.Accepted n) = outcome 0 0 0 0

@@ -5,7 +5,7 @@ use mathlib.Core.List.{List}
 use Prim.Native.Nat.{ℕ, _%_, _^_}
 use lib.ListN.{length, set}
 use lib.Dec.{leb}
-use Rattle.image.specs.Hex.{pick}
+use mathlib.Core.Bool.{cond}
 use Rattle.image.specs.Frames.{framesOf}
 use Rattle.storage.specs.Layout.{Storage}
 use Rattle.reader.specs.Reading.{readOf, leftOf}
@@ -13,10 +13,10 @@ use Rattle.writer.specs.Writing.{writeOf, outOf}
 use Rattle.writer.specs.declared.Wrote.{Wrote}
 use Rattle.writer.specs.declared.Wrote.the-variants as wrote
 use Rattle.checker.specs.Check.{checkOf}
-use Rattle.fitness.specs.Fit.{State}
+use Rattle.state.specs.States.{State}
 use Rattle.starter.specs.Start.{startOf}
-use Rattle.vm.specs.Run.{outcome, runOf}
-use Rattle.vm.specs.declared.Outcome.{Outcome}
+use Rattle.step.specs.Run.{outcome, runOf}
+use Rattle.step.specs.declared.Outcome.{Outcome}
 use Rattle.machine.specs.Answers.{readAnswer, writeAnswer, checkAnswer}
 use Rattle.machine.specs.Results.{returnedOf, spanOf}
 use Rattle.machine.specs.declared.Values.{Values}
@@ -67,7 +67,7 @@ left s l = record { said = s; lent = l }
 
 unfoldable pub dmRead : List ℕ → Storage → List ℕ → Left Storage
 dmRead image S l =
-    pick (leb answerSize (length l)) (left (saying (readAnswer (readOf image S)) l) (leftOf (readOf image S) (framesOf image) S))
+    cond (leb answerSize (length l)) (left (saying (readAnswer (readOf image S)) l) (leftOf (readOf image S) (framesOf image) S))
     (left (said 5 l) S)
 
 -- ---- dm_write: answer[4] is how many bytes were written
@@ -78,26 +78,26 @@ bytesOf (wrote.Refused number) = 0
 
 unfoldable pub dmWrite : Storage → List ℕ → List ℕ → Left (List ℕ)
 dmWrite S out l =
-    pick (leb answerSize (length l))
+    cond (leb answerSize (length l))
     (left (saying5 (writeAnswer (writeOf S out)) (bytesOf (writeOf S out)) l) (outOf (writeOf S out) S out))
     (left (said 5 l) out)
 
 -- ---- dm_check
 
 unfoldable pub dmCheck : Storage → List ℕ → Said
-dmCheck S l = pick (leb answerSize (length l)) (saying (checkAnswer (checkOf S)) l) (said 5 l)
+dmCheck S l = cond (leb answerSize (length l)) (saying (checkAnswer (checkOf S)) l) (said 5 l)
 
 -- ---- dm_start, dm_run
 
 unfoldable pub dmStart : Storage → List ℕ → List ℕ → State → List ℕ → Left State
 dmStart S argKinds argWords s l =
-    pick (leb answerSize (length l))
+    cond (leb answerSize (length l))
     (left (saying (checkAnswer ((startOf S argKinds argWords s) .answer)) l) ((startOf S argKinds argWords s) .state))
     (left (said 5 l) s)
 
 unfoldable pub dmRun : Storage → ℕ → State → List ℕ → Left State
 dmRun S budget s l =
-    pick (leb answerSize (length l)) (left (saying ((runOf S budget s) .answer) l) ((runOf S budget s) .state))
+    cond (leb answerSize (length l)) (left (saying ((runOf S budget s) .answer) l) ((runOf S budget s) .state))
     (left (said 60 l) s)
 
 -- ---- dm_returned: answer[4] is the first register, answer[5] how many
@@ -106,7 +106,7 @@ abbrev pub returnedAnswer : Values → List ℕ → Said
 returnedAnswer r l = saying6 (r .answer) (r .first) (r .count) l
 
 unfoldable pub dmReturned : Storage → State → List ℕ → Said
-dmReturned S s l = pick (leb answerSize (length l)) (returnedAnswer (returnedOf S s) l) (said 60 l)
+dmReturned S s l = cond (leb answerSize (length l)) (returnedAnswer (returnedOf S s) l) (said 60 l)
 
 -- ---- dm_text: answer[4] is where the string's bytes begin in `texts`, answer[5] how many they are
 
@@ -115,4 +115,4 @@ textAnswer (span.At start n) l = saying6 (outcome 0 0 0 0) start n l
 textAnswer (span.Refused number) l = saying6 (outcome number 0 0 0) 0 0 l
 
 unfoldable pub dmText : Storage → ℕ → List ℕ → Said
-dmText S word l = pick (leb answerSize (length l)) (textAnswer (spanOf S word) l) (said 5 l)
+dmText S word l = cond (leb answerSize (length l)) (textAnswer (spanOf S word) l) (said 5 l)

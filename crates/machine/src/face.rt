@@ -2,13 +2,13 @@
 // called. Each returns the number, and writes the number, the count, the prototype and the instruction or line to
 // `answer`.
 use crate::Span;
-use vm::Outcome;
+use step::Outcome;
 use writer::Wrote;
 ghost use mathlib.Core.Path.{_≡_};
 ghost use Prim.Native.Nat.{_%_, _^_};
 ghost use lib.ListN.{set};
-ghost use Rattle.storage.specs.Layout.{storage};
-ghost use Rattle.fitness.specs.Fit.{state};
+ghost use Rattle.storage.specs.Layout.{storageIn, storageOut};
+ghost use Rattle.state.specs.States.{stateIn, stateOut};
 ghost use Rattle.machine.specs.Face.{said, saying, saying5, saying6, left, bytesOf, textAnswer, dmRead, dmWrite, dmCheck, dmStart, dmRun, dmReturned, dmText};
 
 // How long `answer` has to be.
@@ -70,7 +70,7 @@ pub extern "C" fn dm_read(
     texts: &mut [u8],
     answer: &mut [u32],
 ) -> u32
-    ensures { λ r. ⌜ left (said r (now (answer .exit))) (storage (now (table .exit)) (now (code .exit)) (now («const_kinds» .exit)) (now («const_words» .exit)) (now (texts .exit))) ≡ dmRead (now (image .entry)) (storage (now (table .entry)) (now (code .entry)) (now («const_kinds» .entry)) (now («const_words» .entry)) (now (texts .entry))) (now (answer .entry)) ⌝ }
+    ensures { λ r. ⌜ left (said r (now (answer .exit))) (storageOut table code «const_kinds» «const_words» texts) ≡ dmRead (now (image .entry)) (storageIn table code «const_kinds» «const_words» texts) (now (answer .entry)) ⌝ }
 {
     if answer.len() < ANSWER {
         return 5;
@@ -98,7 +98,7 @@ pub extern "C" fn dm_write(
     out: &mut [u8],
     answer: &mut [u32],
 ) -> u32
-    ensures { λ r. ⌜ left (said r (now (answer .exit))) (now (out .exit)) ≡ dmWrite (storage (now (table .entry)) (now (code .entry)) (now («const_kinds» .entry)) (now («const_words» .entry)) (now (texts .entry))) (now (out .entry)) (now (answer .entry)) ⌝ }
+    ensures { λ r. ⌜ left (said r (now (answer .exit))) (now (out .exit)) ≡ dmWrite (storageIn table code «const_kinds» «const_words» texts) (now (out .entry)) (now (answer .entry)) ⌝ }
 {
     if answer.len() < ANSWER {
         return 5;
@@ -116,7 +116,7 @@ pub extern "C" fn dm_check(
     texts: &[u8],
     answer: &mut [u32],
 ) -> u32
-    ensures { λ r. ⌜ said r (now (answer .exit)) ≡ dmCheck (storage (now (table .entry)) (now (code .entry)) (now («const_kinds» .entry)) (now («const_words» .entry)) (now (texts .entry))) (now (answer .entry)) ⌝ }
+    ensures { λ r. ⌜ said r (now (answer .exit)) ≡ dmCheck (storageIn table code «const_kinds» «const_words» texts) (now (answer .entry)) ⌝ }
 {
     if answer.len() < ANSWER {
         return 5;
@@ -139,7 +139,7 @@ pub extern "C" fn dm_start(
     arg_words: &[u64],
     answer: &mut [u32],
 ) -> u32
-    ensures { λ r. ⌜ left (said r (now (answer .exit))) (state (now (frames .exit)) (now (kinds .exit)) (now (words .exit))) ≡ dmStart (storage (now (table .entry)) (now (code .entry)) (now («const_kinds» .entry)) (now («const_words» .entry)) (now (texts .entry))) (now («arg_kinds» .entry)) (now («arg_words» .entry)) (state (now (frames .entry)) (now (kinds .entry)) (now (words .entry))) (now (answer .entry)) ⌝ }
+    ensures { λ r. ⌜ left (said r (now (answer .exit))) (stateOut frames kinds words) ≡ dmStart (storageIn table code «const_kinds» «const_words» texts) (now («arg_kinds» .entry)) (now («arg_words» .entry)) (stateIn frames kinds words) (now (answer .entry)) ⌝ }
 {
     if answer.len() < ANSWER {
         return 5;
@@ -172,7 +172,7 @@ pub extern "C" fn dm_run(
     budget: u32,
     answer: &mut [u32],
 ) -> u32
-    ensures { λ r. ⌜ left (said r (now (answer .exit))) (state (now (frames .exit)) (now (kinds .exit)) (now (words .exit))) ≡ dmRun (storage (now (table .entry)) (now (code .entry)) (now («const_kinds» .entry)) (now («const_words» .entry)) (now (texts .entry))) budget (state (now (frames .entry)) (now (kinds .entry)) (now (words .entry))) (now (answer .entry)) ⌝ }
+    ensures { λ r. ⌜ left (said r (now (answer .exit))) (stateOut frames kinds words) ≡ dmRun (storageIn table code «const_kinds» «const_words» texts) budget (stateIn frames kinds words) (now (answer .entry)) ⌝ }
 {
     if answer.len() < ANSWER {
         return 60;
@@ -203,7 +203,7 @@ pub extern "C" fn dm_returned(
     words: &[u64],
     answer: &mut [u32],
 ) -> u32
-    ensures { λ r. ⌜ said r (now (answer .exit)) ≡ dmReturned (storage (now (table .entry)) (now (code .entry)) (now («const_kinds» .entry)) (now («const_words» .entry)) (now (texts .entry))) (state (now (frames .entry)) (now (kinds .entry)) (now (words .entry))) (now (answer .entry)) ⌝ }
+    ensures { λ r. ⌜ said r (now (answer .exit)) ≡ dmReturned (storageIn table code «const_kinds» «const_words» texts) (stateIn frames kinds words) (now (answer .entry)) ⌝ }
 {
     if answer.len() < ANSWER {
         return 60;
@@ -227,30 +227,10 @@ fn tell_span(answer: &mut [u32], r: Span) -> u32
 {
     match r {
         Span::At(start, n) => {
-            return tell6(
-                answer,
-                Outcome {
-                    number: 0,
-                    count: 0,
-                    prototype: 0,
-                    instruction: 0,
-                },
-                start,
-                n,
-            );
+            return tell6(answer, Outcome::new(0, 0, 0, 0), start, n);
         }
         Span::Refused(number) => {
-            return tell6(
-                answer,
-                Outcome {
-                    number,
-                    count: 0,
-                    prototype: 0,
-                    instruction: 0,
-                },
-                0,
-                0,
-            );
+            return tell6(answer, Outcome::new(number, 0, 0, 0), 0, 0);
         }
     }
 }
@@ -265,7 +245,7 @@ pub extern "C" fn dm_text(
     word: u64,
     answer: &mut [u32],
 ) -> u32
-    ensures { λ r. ⌜ said r (now (answer .exit)) ≡ dmText (storage (now (table .entry)) (now (code .entry)) (now («const_kinds» .entry)) (now («const_words» .entry)) (now (texts .entry))) word (now (answer .entry)) ⌝ }
+    ensures { λ r. ⌜ said r (now (answer .exit)) ≡ dmText (storageIn table code «const_kinds» «const_words» texts) word (now (answer .entry)) ⌝ }
 {
     if answer.len() < ANSWER {
         return 5;

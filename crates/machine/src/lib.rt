@@ -1,127 +1,32 @@
 // The public entry points in one place: for any contents of what is lent there is one answer, and one content is left.
-// `face` has the same for C.
+// Those of other crates are handed on as they are, with their promises; `face` has all of them for C.
 mod face;
 
 use checker::Checked;
-use checker::Instruction;
+use checker::Class;
 use image::Judged;
+use step::Outcome;
 use storage::Validity;
-use vm::Outcome;
 use writer::Wrote;
 ghost use mathlib.Core.Path.{_≡_};
 ghost use mathlib.Core.List.{List};
 ghost use Prim.Native.Nat.{ℕ};
-ghost use Rattle.storage.specs.Layout.{storage};
+ghost use Rattle.storage.specs.Layout.{storage, storageIn};
 ghost use Rattle.constant.specs.Values.{textOf};
-ghost use Rattle.reader.specs.Reading.{Read};
-ghost use Rattle.writer.specs.Writing.{Written};
-ghost use Rattle.checker.specs.Check.{checkOf};
-ghost use Rattle.fitness.specs.Fit.{state};
-ghost use Rattle.starter.specs.Start.{started, startOf};
-ghost use Rattle.vm.specs.Run.{ended, runOf};
+ghost use Rattle.state.specs.States.{stateIn};
 ghost use Rattle.machine.specs.Answers.{readAnswer, writeAnswer, checkAnswer};
 ghost use Rattle.machine.specs.Results.{named, returnedOf, isString, spanOf};
 
-// ---- an image
+// ---- an image: text to storage, storage to text, and whether the machine can carry it out
 
-// Reads an image into the storage.
-pub fn read(
-    image: &[u8],
-    table: &mut [u64],
-    code: &mut [u64],
-    const_kinds: &mut [u8],
-    const_words: &mut [u64],
-    texts: &mut [u8],
-) -> Judged
-    ensures { λ r. ⌜ Read (now (image .entry)) r (storage (now (table .entry)) (now (code .entry)) (now («const_kinds» .entry)) (now («const_words» .entry)) (now (texts .entry))) (storage (now (table .exit)) (now (code .exit)) (now («const_kinds» .exit)) (now («const_words» .exit)) (now (texts .exit))) ⌝ }
-{
-    reader::read(image, table, code, const_kinds, const_words, texts)
-}
+pub use checker::check;
+pub use reader::read;
+pub use writer::write;
 
-// Writes the storage's image back.
-pub fn write(
-    table: &[u64],
-    code: &[u64],
-    const_kinds: &[u8],
-    const_words: &[u64],
-    texts: &[u8],
-    out: &mut [u8],
-) -> Wrote
-    ensures { λ r. ⌜ Written (storage (now (table .entry)) (now (code .entry)) (now («const_kinds» .entry)) (now («const_words» .entry)) (now (texts .entry))) r (now (out .entry)) (now (out .exit)) ⌝ }
-{
-    writer::write(table, code, const_kinds, const_words, texts, out)
-}
+// ---- a machine: started on prototype 0 with arguments, each a kind and a word; and run, on a budget
 
-// Whether the machine can carry the image out.
-pub fn check(
-    table: &[u64],
-    code: &[u64],
-    const_kinds: &[u8],
-    const_words: &[u64],
-    texts: &[u8],
-) -> Checked
-    ensures { λ r. ⌜ r ≡ checkOf (storage (now (table .entry)) (now (code .entry)) (now («const_kinds» .entry)) (now («const_words» .entry)) (now (texts .entry))) ⌝ }
-{
-    checker::check(table, code, const_kinds, const_words, texts)
-}
-
-// ---- a machine
-
-// Starts a machine on prototype 0 with arguments, each a kind and a word.
-pub fn start(
-    table: &[u64],
-    code: &[u64],
-    const_kinds: &[u8],
-    const_words: &[u64],
-    texts: &[u8],
-    frames: &mut [u64],
-    kinds: &mut [u8],
-    words: &mut [u64],
-    arg_kinds: &[u8],
-    arg_words: &[u64],
-) -> Checked
-    ensures { λ r. ⌜ started r (state (now (frames .exit)) (now (kinds .exit)) (now (words .exit))) ≡ startOf (storage (now (table .entry)) (now (code .entry)) (now («const_kinds» .entry)) (now («const_words» .entry)) (now (texts .entry))) (now («arg_kinds» .entry)) (now («arg_words» .entry)) (state (now (frames .entry)) (now (kinds .entry)) (now (words .entry))) ⌝ }
-{
-    starter::start(
-        table,
-        code,
-        const_kinds,
-        const_words,
-        texts,
-        frames,
-        kinds,
-        words,
-        arg_kinds,
-        arg_words,
-    )
-}
-
-// Carries out at most `budget` instructions.
-pub fn run(
-    table: &[u64],
-    code: &[u64],
-    const_kinds: &[u8],
-    const_words: &[u64],
-    texts: &[u8],
-    frames: &mut [u64],
-    kinds: &mut [u8],
-    words: &mut [u64],
-    budget: u32,
-) -> Outcome
-    ensures { λ r. ⌜ ended r (state (now (frames .exit)) (now (kinds .exit)) (now (words .exit))) ≡ runOf (storage (now (table .entry)) (now (code .entry)) (now («const_kinds» .entry)) (now («const_words» .entry)) (now (texts .entry))) budget (state (now (frames .entry)) (now (kinds .entry)) (now (words .entry))) ⌝ }
-{
-    vm::run(
-        table,
-        code,
-        const_kinds,
-        const_words,
-        texts,
-        frames,
-        kinds,
-        words,
-        budget,
-    )
-}
+pub use starter::start;
+pub use vm::run;
 
 // ---- an answer's number, count and place
 
@@ -129,18 +34,8 @@ pub fn read_answer(r: Judged) -> Outcome
     ensures { λ o. ⌜ o ≡ readAnswer r ⌝ }
 {
     match r {
-        Judged::Accepted(_) => Outcome {
-            number: 0,
-            count: 0,
-            prototype: 0,
-            instruction: 0,
-        },
-        Judged::Refused(number, line) => Outcome {
-            number,
-            count: 0,
-            prototype: 0,
-            instruction: line,
-        },
+        Judged::Accepted(_) => Outcome::new(0, 0, 0, 0),
+        Judged::Refused(number, line) => Outcome::new(number, 0, 0, line),
     }
 }
 
@@ -148,18 +43,8 @@ pub fn write_answer(r: Wrote) -> Outcome
     ensures { λ o. ⌜ o ≡ writeAnswer r ⌝ }
 {
     match r {
-        Wrote::Bytes(_) => Outcome {
-            number: 0,
-            count: 0,
-            prototype: 0,
-            instruction: 0,
-        },
-        Wrote::Refused(number) => Outcome {
-            number,
-            count: 0,
-            prototype: 0,
-            instruction: 0,
-        },
+        Wrote::Bytes(_) => Outcome::new(0, 0, 0, 0),
+        Wrote::Refused(number) => Outcome::new(number, 0, 0, 0),
     }
 }
 
@@ -168,18 +53,8 @@ pub fn check_answer(r: Checked) -> Outcome
     ensures { λ o. ⌜ o ≡ checkAnswer r ⌝ }
 {
     match r {
-        Checked::Accepted => Outcome {
-            number: 0,
-            count: 0,
-            prototype: 0,
-            instruction: 0,
-        },
-        Checked::Refused(number, q, i) => Outcome {
-            number,
-            count: 0,
-            prototype: q,
-            instruction: i,
-        },
+        Checked::Accepted => Outcome::new(0, 0, 0, 0),
+        Checked::Refused(number, q, i) => Outcome::new(number, 0, q, i),
     }
 }
 
@@ -193,10 +68,10 @@ pub struct Values {
 }
 
 // What a Return names.
-fn named(o: Outcome, i: Instruction) -> Values
-    ensures { λ r. ⌜ r ≡ named o i ⌝ }
+fn named(o: Outcome, c: Class) -> Values
+    ensures { λ r. ⌜ r ≡ named o c ⌝ }
 {
-    let Instruction::Return(start, n) = i else {
+    let Class::Returns(start, n) = c else {
         return Values {
             answer: o,
             first: 0,
@@ -221,7 +96,7 @@ pub fn returned(
     kinds: &[u8],
     words: &[u64],
 ) -> Values
-    ensures { λ r. ⌜ r ≡ returnedOf (storage (now (table .entry)) (now (code .entry)) (now («const_kinds» .entry)) (now («const_words» .entry)) (now (texts .entry))) (state (now (frames .entry)) (now (kinds .entry)) (now (words .entry))) ⌝ }
+    ensures { λ r. ⌜ r ≡ returnedOf (storageIn table code «const_kinds» «const_words» texts) (stateIn frames kinds words) ⌝ }
 {
     let o = vm::standing(
         table,
@@ -241,7 +116,7 @@ pub fn returned(
         };
     }
     let i = fitness::decoded(table, code, o.prototype, o.instruction);
-    named(o, i)
+    named(o, checker::class_of(i))
 }
 
 // The bytes of a string: `word` is the number of its constant in the whole image, as a register holds it.
@@ -272,7 +147,7 @@ pub fn text_span(
     texts: &[u8],
     word: u64,
 ) -> Span
-    ensures { λ r. ⌜ r ≡ spanOf (storage (now (table .entry)) (now (code .entry)) (now («const_kinds» .entry)) (now («const_words» .entry)) (now (texts .entry))) word ⌝ }
+    ensures { λ r. ⌜ r ≡ spanOf (storageIn table code «const_kinds» «const_words» texts) word ⌝ }
 {
     if !storage::is_long_enough(table, code, const_kinds, const_words, texts) {
         return Span::Refused(5);

@@ -13,7 +13,7 @@ use Rattle.image.specs.declared.Counts.{Counts}
 use Rattle.image.specs.declared.Step.{Step}
 use Rattle.image.specs.declared.Step.the-variants.{On, Done, No}
 use Rattle.image.specs.declared.Judged.the-variants.{Accepted}
-use Rattle.image.proofs.Cases.{pick-cases}
+use Rattle.choices.proofs.Choices.{cond-cases}
 use Rattle.image.proofs.Sizes.{lineSize, size-line}
 use Rattle.image.proofs.Trip.{round-trip}
 use Rattle.storage.specs.Layout.{entryOf, codesOf, kindsOf, wordsOf, textsOf, entriesAll, codesAll, kindsAll, wordsAll, textsAll}
@@ -71,9 +71,9 @@ module _ (st : Counts) (o : Ok st) where
   const-cover : (f : F) → length (kindsOf f) ≡ 1 → ((c k : ℕ) → length (entryOf c k f) ≡ 0) → Cover st f (constStep st)
   unfolding constStep
   const-cover f one none =
-      pick-cases (Cover st f) (leb 1 (st .protos)) _ _
-      (λ a. pick-cases (Cover st f) (eqb (st .codes) 0) _ _
-      (λ b. pick-cases (Cover st f) (ltb (st .consts) 256) _ _
+      cond-cases (Cover st f) (leb 1 (st .protos)) _ _
+      (λ a. cond-cases (Cover st f) (eqb (st .codes) 0) _ _
+      (λ b. cond-cases (Cover st f) (ltb (st .consts) 256) _ _
       (λ d.
       let p : 1 ≤ st .protos = leb-true _ _ a in
       let q : st .consts < 256 = ltb-true _ _ d in
@@ -85,15 +85,15 @@ module _ (st : Counts) (o : Ok st) where
   code-cover : (f : F) → length (kindsOf f) ≡ 0 → ((c k : ℕ) → length (entryOf c k f) ≡ 0) → Cover st f (codeStep st)
   unfolding codeStep
   code-cover f zero' none =
-      pick-cases (Cover st f) (leb 1 (st .protos)) _ _
-      (λ a. pick-cases (Cover st f) (ltb (st .codes) 4096) _ _
+      cond-cases (Cover st f) (leb 1 (st .protos)) _ _
+      (λ a. cond-cases (Cover st f) (ltb (st .codes) 4096) _ _
       (λ d. record { ok = (omega arith, omega arith); kinds = omega arith; entries = λ c k. omega (arith, none c k) }) (λ d. tt))
       (λ a. tt)
 
   covers : (f : F) → Cover st f (stepOf st (shape f))
   unfolding stepOf shape kindsOf entryOf
   covers (opens r p) =
-      pick-cases (Cover st (opens r p)) (ltb (st .protos) 32) _ _
+      cond-cases (Cover st (opens r p)) (ltb (st .protos) 32) _ _
       (λ d.
       let q : st .protos < 32 = ltb-true _ _ d in
       record { ok = (omega arith, omega arith); kinds = omega arith; entries = λ c k. omega arith })
@@ -101,7 +101,7 @@ module _ (st : Counts) (o : Ok st) where
   covers (const k w) = const-cover (const k w) refl (λ c k. refl)
   covers (str l) = const-cover (str l) refl (λ c k. refl)
   covers (code w) = code-cover (code w) refl (λ c k. refl)
-  covers (ends n) = pick-cases (Cover st (ends n)) (eqb n (st .protos)) _ _ (λ d. (refl, λ c k. refl)) (λ d. tt)
+  covers (ends n) = cond-cases (Cover st (ends n)) (eqb n (st .protos)) _ _ (λ d. (refl, λ c k. refl)) (λ d. tt)
   covers (bad k) = tt
 
 -- what an accepted run from these counts still adds

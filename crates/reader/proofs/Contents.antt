@@ -17,7 +17,7 @@ use Rattle.storage.specs.Layout.{Storage, storage, contentsOf, laid, longEnough
 use Rattle.storage.specs.Stored.{ReadsTo}
 use Rattle.reader.specs.Reading.{Read, readOf, leftOf}
 use Rattle.reader.specs.Steps.{Filled}
-use Rattle.image.proofs.Cases.{pick-cases, pick-true}
+use Rattle.choices.proofs.Choices.{cond-cases, cond-true}
 use Rattle.reader.proofs.Bounds.{sizes-suffice}
 
 -- ---- the answer
@@ -43,10 +43,10 @@ record Long (t c k w x : List ℕ) : Type 0 where
 long-slices : (t c k w x : List ℕ) → longEnough (storage t c k w x) ≡ true → Long t c k w x
 unfolding longEnough
 long-slices t c k w x e =
-    let a = pick-true _ _ e in
-    let b = pick-true _ _ (a .1) in
-    let d = pick-true _ _ (b .1) in
-    let f = pick-true _ _ (d .1) in
+    let a = cond-true _ _ e in
+    let b = cond-true _ _ (a .1) in
+    let d = cond-true _ _ (b .1) in
+    let f = cond-true _ _ (d .1) in
     record { table = leb-true _ _ (a .0); code = leb-true _ _ (b .0); kinds = leb-true _ _ (d .0); words = leb-true _ _ (f .0); texts = leb-true _ _ (f .1) }
 
 sets-laid : (xs l : List ℕ) → length xs ≤ length l → sets l 0 xs ≡ laid xs l
@@ -80,7 +80,7 @@ front xs l = take-append-seam xs (drop (length xs) l)
 judged : (image : List ℕ) (n : ℕ) (S : Storage) → Accepted n ≡ readOf image S → judgeOf image ≡ Accepted n
 unfolding readOf
 judged image n S =
-    pick-cases (λ (j : Judged). Accepted n ≡ j → judgeOf image ≡ Accepted n) (longEnough S) _ _ (λ h e. sym e)
+    cond-cases (λ (j : Judged). Accepted n ≡ j → judgeOf image ≡ Accepted n) (longEnough S) _ _ (λ h e. sym e)
     (λ h e. let z : _≡_ {A = ℕ} 0 1 = cc in absurd (omega arith))
 
 pub reads-to : (image : List ℕ) (n : ℕ) (S S' : Storage) → Read image (Accepted n) S S' → ReadsTo image S'

@@ -5,32 +5,32 @@ use native.Mathlib.Nat.{add-zero, sub-zero}
 use lib.Pow.{pow-add, pow-mono}
 use mathlib.Core.Path.{_≡_, refl, sym, _∙_}
 use mathlib.Core.List.{List, [], _∷_}
-use mathlib.Core.Bool.{Bool, true, false}
+use mathlib.Core.Bool.{Bool, true, false, cond}
 use lib.ListN.{length, getD, take, drop, drop-of-length-le}
 use lib.Seq.{drop-cons}
 use borrow.Author.Tests.{le-ltb, lt-ltb, le-leb, lt-leb}
 use lib.Dec.{ltb, eqb}
-use Rattle.image.specs.Hex.{pick, digitOf, paired, bytesOf, wordFrom}
+use Rattle.image.specs.Hex.{digitOf, paired, bytesOf, wordFrom}
 use Rattle.image.proofs.HexLaws.{digit-le, both-digits, bytes-length}
-use Rattle.image.proofs.Cases.{split, by-bool}
+use Rattle.choices.proofs.Choices.{by-bool, by-order}
 
 pub digit-none : (b : ℕ) → (48 ≤ b → 57 < b) → (97 ≤ b → 102 < b) → digitOf b ≡ 16
 unfolding digitOf
 digit-none b f g =
-    split 48 b
-    (λ h. split 97 b (λ m. simp (le-leb _ _ h, lt-leb _ _ (f h), le-leb _ _ m, lt-leb _ _ (g m))) (λ m. simp (le-leb _ _ h, lt-leb _ _ (f h), lt-leb _ _ m)))
+    by-order 48 b
+    (λ h. by-order 97 b (λ m. simp (le-leb _ _ h, lt-leb _ _ (f h), le-leb _ _ m, lt-leb _ _ (g m))) (λ m. simp (le-leb _ _ h, lt-leb _ _ (f h), lt-leb _ _ m)))
     (λ h. simp (lt-leb _ _ h))
 
 -- ---- pairs are digits, of which there is an even number
 
 abbrev digits : List ℕ → Bool
 digits [] = true
-digits (a ∷ l) = pick (ltb (digitOf a) 16) (digits l) false
+digits (a ∷ l) = cond (ltb (digitOf a) 16) (digits l) false
 
 even-two : (n : ℕ) → suc (suc n) % 2 ≡ n % 2
 even-two n = omega arith
 
-paired-digits : (l : List ℕ) → paired l ≡ pick (digits l) (eqb (length l % 2) 0) false
+paired-digits : (l : List ℕ) → paired l ≡ cond (digits l) (eqb (length l % 2) 0) false
 unfolding paired
 paired-digits [] = refl
 paired-digits (a ∷ []) = by-bool (ltb (digitOf a) 16) (λ e. rw e) (λ e. rw e)
@@ -60,10 +60,10 @@ module _ (l : List ℕ) (i bad : ℕ) (t : Tested l i bad) where
   tested-more h =
       let d = digitOf (getD l i 0) in
       let w : i + 1 ≡ suc i = omega arith in
-      split 16 d
+      by-order 16 d
       (λ g.
       let e : d / 16 ≡ 1 = omega (arith, digit-le (getD l i 0)) in
-      let n : digits l ≡ false = split 1 bad (t .some) (λ z. sym (t .none (omega arith)) ∙ digits-not l i h g) in
+      let n : digits l ≡ false = by-order 1 bad (t .some) (λ z. sym (t .none (omega arith)) ∙ digits-not l i h g) in
       rw e (record { few = omega (arith, t .few); none = λ z. absurd (omega arith); some = λ z. n }))
       (λ g.
       let e : bad + d / 16 ≡ bad = omega arith in

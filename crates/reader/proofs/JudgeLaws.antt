@@ -14,7 +14,7 @@ use Rattle.image.specs.declared.Step.the-variants.{On, Done, No}
 use Rattle.image.specs.declared.Judged.the-variants.{Accepted, Refused}
 use Rattle.reader.specs.declared.line.Next.{Next}
 use Rattle.reader.specs.Steps.{Advance}
-use Rattle.image.proofs.Cases.{split}
+use Rattle.choices.proofs.Choices.{by-order}
 use Rattle.reader.proofs.LineLaws.{frames-cut, frames-uncut, frames-none}
 
 pub judge-long : (l : List ℕ) → 65536 < length l → judgeOf l ≡ Refused 3 0
@@ -34,7 +34,7 @@ going-start l h = record { within = omega arith; few = omega arith; rest = simp 
 -- bytes left make a frame
 some-frame : (l : List ℕ) (at : ℕ) → at < length l → (f : F) × ((fs : List F) × (framesOf (drop at l) ≡ f ∷ fs))
 some-frame l at h =
-    split (length l) (at + lineLen (drop at l))
+    by-order (length l) (at + lineLen (drop at l))
     (λ k. (_, (_, frames-uncut l at k h)))
     (λ k. (_, (_, frames-cut l at (at + lineLen (drop at l)) refl k)))
 

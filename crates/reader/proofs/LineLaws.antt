@@ -7,10 +7,10 @@ use lib.ListN.{length, getD, take, drop, drop-of-length-le, length-drop}
 use lib.Seq.{drop-cons, drop-drop, drop-length}
 use lib.Dec.{eqb}
 use borrow.Author.Tests.{eq-eqb, ne-eqb, lt-ltb, le-ltb}
-use Rattle.image.specs.Hex.{pick}
+use mathlib.Core.Bool.{cond}
 use Rattle.image.specs.Lines.{ended, unended, onto, lines, lineLen}
 use Rattle.image.specs.Frames.{bad, frameOf, lineFrame, framesOf, firstFrame}
-use Rattle.image.proofs.Cases.{by-bool}
+use Rattle.choices.proofs.Choices.{by-bool}
 
 module _ (l : List ℕ) (i : ℕ) where
   pub lf-here : i < length l → getD l i 0 ≡ 10 → lineLen (drop i l) ≡ 0
@@ -32,7 +32,7 @@ lines-cut [] h = absurd (omega arith)
 lines-cut (b ∷ l) h =
     by-bool (eqb b 10) (λ e. rw e)
     (λ e.
-    let k : pick (eqb b 10) zero (suc (lineLen l)) < suc (length l) = h in
+    let k : cond (eqb b 10) zero (suc (lineLen l)) < suc (length l) = h in
     let m : suc (lineLen l) < suc (length l) = rw e at k in
     rw (e, lines-cut l (omega arith)))
 
@@ -42,13 +42,13 @@ unfolding lineLen lines onto
 lines-uncut [] h k = absurd (omega arith)
 lines-uncut (b ∷ []) h k =
     by-bool (eqb b 10)
-    (λ e. let m : suc zero ≤ pick (eqb b 10) zero (suc zero) = h in let n : suc zero ≤ zero = rw e at m in absurd (omega arith))
+    (λ e. let m : suc zero ≤ cond (eqb b 10) zero (suc zero) = h in let n : suc zero ≤ zero = rw e at m in absurd (omega arith))
     (λ e. rw e)
 lines-uncut (b ∷ d ∷ l) h k =
     by-bool (eqb b 10)
-    (λ e. let m : suc (length (d ∷ l)) ≤ pick (eqb b 10) zero (suc (lineLen (d ∷ l))) = h in let n : suc (length (d ∷ l)) ≤ zero = rw e at m in absurd (omega arith))
+    (λ e. let m : suc (length (d ∷ l)) ≤ cond (eqb b 10) zero (suc (lineLen (d ∷ l))) = h in let n : suc (length (d ∷ l)) ≤ zero = rw e at m in absurd (omega arith))
     (λ e.
-    let m : suc (length (d ∷ l)) ≤ pick (eqb b 10) zero (suc (lineLen (d ∷ l))) = h in
+    let m : suc (length (d ∷ l)) ≤ cond (eqb b 10) zero (suc (lineLen (d ∷ l))) = h in
     let n : suc (length (d ∷ l)) ≤ suc (lineLen (d ∷ l)) = rw e at m in
     rw (e, lines-uncut (d ∷ l) (omega arith) (omega arith)))
 

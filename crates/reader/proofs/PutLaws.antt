@@ -16,7 +16,7 @@ use Rattle.image.specs.declared.Frame.the-variants.{Open, Const, Str, Code, End
 use Rattle.storage.specs.declared.Tops.{Tops}
 use Rattle.storage.specs.Layout.{entryOf, codesOf, kindsOf, wordsOf, textsOf}
 use Rattle.reader.specs.Steps.{Put}
-use Rattle.image.proofs.Cases.{pick-cases}
+use Rattle.choices.proofs.Choices.{cond-cases}
 use Rattle.image.proofs.HexLaws.{bytes-length}
 
 -- ---- a string's bytes, one at a time
@@ -59,52 +59,52 @@ module _ (line : List ℕ) (p : paired line ≡ true) where
   unfolding openBytes
   open-told =
       let B = bytesOf line in
-      pick-cases (Told line) (eqb (length B) 3) _ _
-      (λ h. pick-cases (Told line) (leb 1 (getD B 1 0)) _ _
-      (λ t. pick-cases (Told line) (leb (getD B 2 0) (getD B 1 0)) _ _ (λ m. tt) (λ m. tt))
+      cond-cases (Told line) (eqb (length B) 3) _ _
+      (λ h. cond-cases (Told line) (leb 1 (getD B 1 0)) _ _
+      (λ t. cond-cases (Told line) (leb (getD B 2 0) (getD B 1 0)) _ _ (λ m. tt) (λ m. tt))
       (λ t. tt))
       (λ h. tt)
 
   word-told : (tag : ℕ) (l : List ℕ) → Told line (wordBytesOf tag l)
   unfolding wordBytesOf
   word-told tag l =
-      pick-cases (Told line) (eqb (length l) (payload tag)) _ _
-      (λ h. pick-cases (Told line) (leb _ (mostOf tag)) _ _ (λ m. tt) (λ m. tt))
+      cond-cases (Told line) (eqb (length l) (payload tag)) _ _
+      (λ h. cond-cases (Told line) (leb _ (mostOf tag)) _ _ (λ m. tt) (λ m. tt))
       (λ h. tt)
 
   const-told : Told line (constBytes (bytesOf line))
   unfolding constBytes
   const-told =
       let B = bytesOf line in
-      pick-cases (Told line) (leb 2 (length B)) _ _
-      (λ h. pick-cases (Told line) (ltb (getD B 1 0) 4) _ _ (λ t. word-told (getD B 1 0) (drop 2 B))
-      (λ t. pick-cases (Told line) (eqb (getD B 1 0) 4) _ _
-      (λ u. pick-cases (Told line) (leb (length B) 66) _ _ (λ m. (p, (leb-true _ _ h, refl))) (λ m. tt))
+      cond-cases (Told line) (leb 2 (length B)) _ _
+      (λ h. cond-cases (Told line) (ltb (getD B 1 0) 4) _ _ (λ t. word-told (getD B 1 0) (drop 2 B))
+      (λ t. cond-cases (Told line) (eqb (getD B 1 0) 4) _ _
+      (λ u. cond-cases (Told line) (leb (length B) 66) _ _ (λ m. (p, (leb-true _ _ h, refl))) (λ m. tt))
       (λ u. tt)))
       (λ h. tt)
 
   code-told : Told line (codeBytes (bytesOf line))
   unfolding codeBytes
-  code-told = pick-cases (Told line) (eqb (length (bytesOf line)) 6) _ _ (λ m. tt) (λ m. tt)
+  code-told = cond-cases (Told line) (eqb (length (bytesOf line)) 6) _ _ (λ m. tt) (λ m. tt)
 
   end-told : Told line (endBytes (bytesOf line))
   unfolding endBytes
-  end-told = pick-cases (Told line) (eqb (length (bytesOf line)) 2) _ _ (λ m. tt) (λ m. tt)
+  end-told = cond-cases (Told line) (eqb (length (bytesOf line)) 2) _ _ (λ m. tt) (λ m. tt)
 
   kind-told : Told line (kindBytes (bytesOf line))
   unfolding kindBytes
   kind-told =
       let k = getD (bytesOf line) 0 0 in
-      pick-cases (Told line) (eqb k 0xa0) _ _ (λ a. open-told)
-      (λ a. pick-cases (Told line) (eqb k 0xb0) _ _ (λ b. const-told)
-      (λ b. pick-cases (Told line) (eqb k 0xc0) _ _ (λ c. code-told)
-      (λ c. pick-cases (Told line) (eqb k 0xe0) _ _ (λ d. end-told) (λ d. tt))))
+      cond-cases (Told line) (eqb k 0xa0) _ _ (λ a. open-told)
+      (λ a. cond-cases (Told line) (eqb k 0xb0) _ _ (λ b. const-told)
+      (λ b. cond-cases (Told line) (eqb k 0xc0) _ _ (λ c. code-told)
+      (λ c. cond-cases (Told line) (eqb k 0xe0) _ _ (λ d. end-told) (λ d. tt))))
 
 told : (line : List ℕ) → Told line (frameOf line)
 unfolding frameOf
 told line =
-    pick-cases (Told line) (leb 1 (length line)) _ _
-    (λ h. pick-cases (Told line) (paired line) _ _ (λ p. kind-told line p) (λ p. tt))
+    cond-cases (Told line) (leb 1 (length line)) _ _
+    (λ h. cond-cases (Told line) (paired line) _ _ (λ p. kind-told line p) (λ p. tt))
     (λ h. tt)
 
 -- ---- what the enum's case says of the frame

@@ -3,7 +3,7 @@
 use Prim.Native.Nat.{ℕ}
 use mathlib.Core.Path.{_≡_}
 use mathlib.Core.List.{List}
-use Rattle.image.specs.Hex.{pick}
+use mathlib.Core.Bool.{cond}
 use Rattle.image.specs.Frames.{F, framesOf}
 use Rattle.image.specs.Judge.{judgeOf}
 use Rattle.image.specs.declared.Judged.{Judged}
@@ -11,7 +11,7 @@ use Rattle.image.specs.declared.Judged.the-variants.{Accepted, Refused}
 use Rattle.storage.specs.Layout.{Storage, contentsOf, laidIn, longEnough}
 
 unfoldable pub readOf : List ℕ → Storage → Judged
-readOf image S = pick (longEnough S) (judgeOf image) (Refused 5 0)
+readOf image S = cond (longEnough S) (judgeOf image) (Refused 5 0)
 
 -- "storage untouched"
 unfoldable pub leftOf : Judged → List F → Storage → Storage

@@ -6,7 +6,7 @@ mod line;
 mod view;
 
 use image::Judged;
-ghost use Rattle.storage.specs.Layout.{storage};
+ghost use Rattle.storage.specs.Layout.{storageIn, storageOut};
 ghost use Rattle.reader.specs.Reading.{Read};
 
 pub fn read(
@@ -17,7 +17,7 @@ pub fn read(
     const_words: &mut [u64],
     texts: &mut [u8],
 ) -> Judged
-    ensures { λ r. ⌜ Read (now (image .entry)) r (storage (now (table .entry)) (now (code .entry)) (now («const_kinds» .entry)) (now («const_words» .entry)) (now (texts .entry))) (storage (now (table .exit)) (now (code .exit)) (now («const_kinds» .exit)) (now («const_words» .exit)) (now (texts .exit))) ⌝ }
+    ensures { λ r. ⌜ Read (now (image .entry)) r (storageIn table code «const_kinds» «const_words» texts) (storageOut table code «const_kinds» «const_words» texts) ⌝ }
 {
     let enough = storage::is_long_enough(table, code, const_kinds, const_words, texts);
     if !enough {

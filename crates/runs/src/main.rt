@@ -8,7 +8,7 @@
 //   a0.. b0.. c0.. e0..    a line of its image, e0 the last
 use checker::Checked;
 use image::Judged;
-use vm::Outcome;
+use step::Outcome;
 ghost use Prim.Native.Nat.{_+_, _≤_};
 ghost use lib.ListN.{length};
 
@@ -188,11 +188,11 @@ fn answer(
 
 // One image; the number of its answer.
 fn run(s: &[u8]) -> u8 {
-    let mut table = [0u64; 133];
-    let mut code = [0u64; 5041];
-    let mut const_kinds = [0u8; 8448];
-    let mut const_words = [0u64; 8448];
-    let mut texts = [0u8; 32768];
+    let mut table = [0u64; storage::TABLE];
+    let mut code = [0u64; storage::CODE];
+    let mut const_kinds = [0u8; storage::CONSTANTS];
+    let mut const_words = [0u64; storage::CONSTANTS];
+    let mut texts = [0u8; storage::TEXTS];
     let r = reader::read(
         s,
         &mut table,
@@ -205,9 +205,9 @@ fn run(s: &[u8]) -> u8 {
         io::write_all(1, b"not read\n");
         return n;
     }
-    let mut frames = [0u64; 34];
-    let mut kinds = [0u8; 2308];
-    let mut words = [0u64; 2308];
+    let mut frames = [0u64; state::FRAMES];
+    let mut kinds = [0u8; state::REGISTERS];
+    let mut words = [0u64; state::REGISTERS];
     let no_kinds = [0u8; 0];
     let no_words = [0u64; 0];
     let c = starter::start(

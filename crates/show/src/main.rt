@@ -4,7 +4,7 @@ use constant::Answer;
 use constant::Value;
 use libc::STDOUT_FILENO;
 use number::Whole;
-use vm::Outcome;
+use step::Outcome;
 use worked::Told;
 
 fn write_value(v: Value) {

@@ -1,6 +1,6 @@
 // Replays outside cases of starting and running: images, changes of the storage and of the state, arguments and budgets,
 // on standard input. After each start and each run it writes the answer, and then every cell of the state that is
-// another than before. tools/states/cases.py makes the list, and by a machine of its own what must be written.
+// another than before. tools/states/cases.py makes the list, and by tools/oracle what must be written.
 //
 // A line of the list is one of (numbers are hexadecimal)
 //   # words                a case's name, written as it is; every cell of the storage becomes 0, of the state 5a
@@ -15,7 +15,7 @@
 //   ?11111111              how the machine stands
 use checker::Checked;
 use image::Judged;
-use vm::Outcome;
+use step::Outcome;
 ghost use Prim.Native.Nat.{_≤_};
 
 // ---- what is written
@@ -370,12 +370,12 @@ fn answer(
     kinds: &mut [u8],
     words: &mut [u64],
 ) {
-    let mut was_frames = [0u64; 35];
-    let mut was_kinds = [0u8; 2309];
-    let mut was_words = [0u64; 2309];
-    slices::take_words(frames, 0, &mut was_frames, 0, 35);
-    slices::take_bytes(kinds, 0, &mut was_kinds, 0, 2309);
-    slices::take_words(words, 0, &mut was_words, 0, 2309);
+    let mut was_frames = [0u64; state::FRAMES + 1];
+    let mut was_kinds = [0u8; state::REGISTERS + 1];
+    let mut was_words = [0u64; state::REGISTERS + 1];
+    slices::take_words(frames, 0, &mut was_frames, 0, state::FRAMES + 1);
+    slices::take_bytes(kinds, 0, &mut was_kinds, 0, state::REGISTERS + 1);
+    slices::take_words(words, 0, &mut was_words, 0, state::REGISTERS + 1);
     act(
         line,
         table,
@@ -463,14 +463,14 @@ fn play_lines(
 
 // A case: its name, its image, and the lines after it. Every slice is one cell longer than published.
 fn play_case(s: &[u8]) {
-    let mut table = [0u64; 134];
-    let mut code = [0u64; 5042];
-    let mut const_kinds = [0u8; 8449];
-    let mut const_words = [0u64; 8449];
-    let mut texts = [0u8; 32769];
-    let mut frames = [0x5a5a_5a5a_5a5a_5a5au64; 35];
-    let mut kinds = [0x5au8; 2309];
-    let mut words = [0x5a5a_5a5a_5a5a_5a5au64; 2309];
+    let mut table = [0u64; storage::TABLE + 1];
+    let mut code = [0u64; storage::CODE + 1];
+    let mut const_kinds = [0u8; storage::CONSTANTS + 1];
+    let mut const_words = [0u64; storage::CONSTANTS + 1];
+    let mut texts = [0u8; storage::TEXTS + 1];
+    let mut frames = [0x5a5a_5a5a_5a5a_5a5au64; state::FRAMES + 1];
+    let mut kinds = [0x5au8; state::REGISTERS + 1];
+    let mut words = [0x5a5a_5a5a_5a5a_5a5au64; state::REGISTERS + 1];
     let n = lists::find(s, 0, b'\n');
     if s.len() <= n {
         return;

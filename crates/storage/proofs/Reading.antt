@@ -11,7 +11,7 @@ use Rattle.image.specs.Frames.{framesOf}
 use Rattle.image.specs.Judge.{start, judgeFrames, judgeOf}
 use Rattle.image.specs.declared.Judged.{Judged}
 use Rattle.image.specs.declared.Judged.the-variants.{Accepted, Refused}
-use Rattle.image.proofs.Cases.{pick-cases, pick-true}
+use Rattle.choices.proofs.Choices.{cond-cases, cond-true}
 use Rattle.storage.specs.Layout.{Storage, contentsOf}
 use Rattle.storage.specs.Fields.{prototypesOf}
 use Rattle.storage.specs.Stored.{ReadsTo, startsWith, standsIn, backIn}
@@ -28,7 +28,7 @@ unfolding startsWith
 starts-take [] l e = refl
 starts-take (x ∷ xs) [] e = let z : _≡_ {A = ℕ} 0 1 = cc in absurd (omega arith)
 starts-take (x ∷ xs) (y ∷ l) e =
-    let p = pick-true _ _ e in
+    let p = cond-true _ _ e in
     ap₂ (λ (z : ℕ) (r : List ℕ). z ∷ r) (sym (eqb-true _ _ (p .0))) (starts-take xs l (p .1))
 
 take-starts : (xs l : List ℕ) → take (length xs) l ≡ xs → startsWith xs l ≡ true
@@ -43,10 +43,10 @@ take-starts (x ∷ xs) (y ∷ l) e =
 pub back-reads : (s : List ℕ) (S : Storage) (j : Judged) → judgeOf s ≡ j → backIn j (framesOf s) S ≡ true → ReadsTo s S
 unfolding backIn standsIn
 back-reads s S (Accepted n) e h =
-    let a = pick-true _ _ h in
-    let b = pick-true _ _ (a .1) in
-    let c = pick-true _ _ (b .1) in
-    let d = pick-true _ _ (c .1) in
+    let a = cond-true _ _ h in
+    let b = cond-true _ _ (a .1) in
+    let c = cond-true _ _ (b .1) in
+    let d = cond-true _ _ (c .1) in
     record {
       count = n;
       accepted = e;
@@ -79,7 +79,7 @@ Short s q j = j ≡ Accepted q → (length s ≤ 65536) × (judgeFrames start 0 
 pub accepted-short : (s : List ℕ) (q : ℕ) → Short s q (judgeOf s)
 unfolding judgeOf
 accepted-short s q =
-    pick-cases (Short s q) (ltb 65536 (length s)) _ _
+    cond-cases (Short s q) (ltb 65536 (length s)) _ _
     (λ h e. let z : _≡_ {A = ℕ} 0 1 = cc in absurd (omega arith))
     (λ h e. (ltb-false _ _ h, e))
 

@@ -11,7 +11,7 @@ use Rattle.image.specs.declared.Counts.{Counts}
 use Rattle.image.specs.declared.Step.{Step}
 use Rattle.image.specs.declared.Step.the-variants.{On, Done, No}
 use Rattle.image.specs.declared.Judged.the-variants.{Accepted}
-use Rattle.image.proofs.Cases.{pick-cases}
+use Rattle.choices.proofs.Choices.{cond-cases}
 
 -- ---- the run
 
@@ -62,26 +62,26 @@ module _ (st : Counts) (f : F) where
   const-told : (1 ≤ st .protos → st .codes ≡ 0 → Told st f (On (constMore st))) → Told st f (constStep st)
   unfolding constStep
   const-told on =
-      pick-cases (Told st f) (leb 1 (st .protos)) _ _
-      (λ a. pick-cases (Told st f) (eqb (st .codes) 0) _ _
-      (λ b. pick-cases (Told st f) (ltb (st .consts) 256) _ _ (λ c. on (leb-true _ _ a) (eqb-true _ _ b)) (λ c. refused))
+      cond-cases (Told st f) (leb 1 (st .protos)) _ _
+      (λ a. cond-cases (Told st f) (eqb (st .codes) 0) _ _
+      (λ b. cond-cases (Told st f) (ltb (st .consts) 256) _ _ (λ c. on (leb-true _ _ a) (eqb-true _ _ b)) (λ c. refused))
       (λ b. refused))
       (λ a. refused)
 
   code-told : (1 ≤ st .protos → Told st f (On (codeMore st))) → Told st f (codeStep st)
   unfolding codeStep
   code-told on =
-      pick-cases (Told st f) (leb 1 (st .protos)) _ _
-      (λ a. pick-cases (Told st f) (ltb (st .codes) 4096) _ _ (λ b. on (leb-true _ _ a)) (λ b. refused))
+      cond-cases (Told st f) (leb 1 (st .protos)) _ _
+      (λ a. cond-cases (Told st f) (ltb (st .codes) 4096) _ _ (λ b. on (leb-true _ _ a)) (λ b. refused))
       (λ a. refused)
 
 told : (f : F) (st : Counts) → Told st f (stepOf st (shape f))
 unfolding stepOf shape
-told (opens r p) st = pick-cases (Told st (opens r p)) (ltb (st .protos) 32) _ _ (λ a. opened (ltb-true _ _ a)) (λ a. refused)
+told (opens r p) st = cond-cases (Told st (opens r p)) (ltb (st .protos) 32) _ _ (λ a. opened (ltb-true _ _ a)) (λ a. refused)
 told (const k w) st = const-told st (const k w) word
 told (str l) st = const-told st (str l) text
 told (code w) st = code-told st (code w) instruction
-told (ends m) st = pick-cases (Told st (ends m)) (eqb m (st .protos)) _ _ (λ a. ended (eqb-true _ _ a)) (λ a. refused)
+told (ends m) st = cond-cases (Told st (ends m)) (eqb m (st .protos)) _ _ (λ a. ended (eqb-true _ _ a)) (λ a. refused)
 told (bad k) st = refused
 
 pub told-as : {st : Counts} {f : F} {x : Step} → stepOf st (shape f) ≡ x → Told st f x

@@ -9,7 +9,7 @@ use lib.ListN.{length}
 use Rattle.image.specs.Judge.{judgeOf}
 use Rattle.image.specs.Frames.{framesOf}
 use Rattle.image.specs.Write.{written}
-use Rattle.image.proofs.Cases.{by-bool}
+use Rattle.choices.proofs.Choices.{by-bool}
 use Rattle.image.proofs.Trip.{round-trip, accepted-said}
 use Rattle.storage.specs.Layout.{Storage}
 use Rattle.storage.specs.Stored.{ReadsTo, imageIn, readsBack, validOf}

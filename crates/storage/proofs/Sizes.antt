@@ -9,7 +9,7 @@ use Rattle.image.specs.Frames.{F, opens, const, str, code, ends, bad, shape, pa
 use Rattle.image.specs.Write.{written}
 use Rattle.image.specs.declared.Frame.{Frame}
 use Rattle.image.specs.declared.Frame.the-variants.{Open, Const, Str, Code, End, Bad}
-use Rattle.image.proofs.Cases.{pick-cases}
+use Rattle.choices.proofs.Choices.{cond-cases}
 use Rattle.image.proofs.Said.{Said}
 use Rattle.image.proofs.Sizes.{lineSize, size-line}
 use Rattle.storage.specs.Cursor.{sizeOf}
@@ -17,8 +17,8 @@ use Rattle.storage.specs.Cursor.{sizeOf}
 pub payload-small : (k : ℕ) → payload k ≤ 8
 unfolding payload
 payload-small k =
-    pick-cases (λ (n : ℕ). n ≤ 8) (eqb k 0) _ _ (λ _. omega arith)
-    (λ _. pick-cases (λ (n : ℕ). n ≤ 8) (eqb k 1) _ _ (λ _. omega arith) (λ _. omega arith))
+    cond-cases (λ (n : ℕ). n ≤ 8) (eqb k 0) _ _ (λ _. omega arith)
+    (λ _. cond-cases (λ (n : ℕ). n ≤ 8) (eqb k 1) _ _ (λ _. omega arith) (λ _. omega arith))
 
 pub str-small : (f : Frame) (n : ℕ) → sizeOf f ≤ 1000 → f ≡ Str n → n ≤ 498
 unfolding sizeOf

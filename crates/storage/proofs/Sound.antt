@@ -10,7 +10,7 @@ use borrow.Author.Tests.{ltb-true, leb-true, eqb-true, eqb-false}
 use Rattle.image.specs.Frames.{F, opens, const, str, code, ends, bad, shape, mostOf}
 use Rattle.image.specs.declared.Frame.{Frame}
 use Rattle.image.specs.declared.Frame.the-variants.{Open, Const, Str, Code, End, Bad}
-use Rattle.image.proofs.Cases.{split, pick-cases}
+use Rattle.choices.proofs.Choices.{cond-cases, by-order}
 use Rattle.image.proofs.HexLaws.{AllBytes, bytes-drop}
 use Rattle.image.proofs.Said.{Said}
 use Rattle.storage.specs.Layout.{Storage, entryOf, codesOf, kindsOf, wordsOf, textsOf}
@@ -31,7 +31,7 @@ real t S (Bad k) = bad k
 
 bytes-take : (n : ℕ) (l : List ℕ) → AllBytes l → AllBytes (take n l)
 bytes-take n l h i =
-    split (suc i) n (λ g. rw (getD-take n l i 0 g) (h i))
+    by-order (suc i) n (λ g. rw (getD-take n l i 0 g) (h i))
     (λ g. rw (List·getD-eq-default (take n l) 0 {n = i} (omega (arith, length-take n l))) (omega arith))
 
 back : (a b : ℕ) → a ≤ b → b ≡ a + (b - a)
@@ -53,8 +53,8 @@ module _ (t : Tops) (S : Storage) (bytes : AllBytes (S .texts)) (few : t .entrie
   code-sound : Sound (nextCode t (S .code))
   unfolding nextCode real shape entryOf codesOf kindsOf wordsOf textsOf
   code-sound =
-      pick-cases Sound (ltb (t .codes) (length (S .code))) _ _
-      (λ a. pick-cases Sound (ltb (getD (S .code) (t .codes) 0) (2 ^ 40)) _ _
+      cond-cases Sound (ltb (t .codes) (length (S .code))) _ _
+      (λ a. cond-cases Sound (ltb (getD (S .code) (t .codes) 0) (2 ^ 40)) _ _
       (λ b n. record {
         here = record { table = refl; code = at-cons (S .code) (t .codes) _ [] (ltb-true _ _ a) refl refl; kinds = refl; words = refl; texts = refl };
         said = ltb-true _ _ b;
@@ -103,9 +103,9 @@ module _ (t : Tops) (S : Storage) (bytes : AllBytes (S .texts)) (few : t .entrie
     text-sound g =
         let w = getD (S .words) (t .consts) 0 in
         let n = getD (S .words) (t .consts) 0 - t .texts * 65536 in
-        pick-cases Sound (leb (t .texts * 65536) w) _ _
-        (λ h. pick-cases Sound (leb n 64) _ _
-        (λ i. pick-cases Sound (leb (t .texts + n) (length (S .texts))) _ _
+        cond-cases Sound (leb (t .texts * 65536) w) _ _
+        (λ h. cond-cases Sound (leb n 64) _ _
+        (λ i. cond-cases Sound (leb (t .texts + n) (length (S .texts))) _ _
         (λ j. text-here n g (back (t .texts * 65536) w (leb-true _ _ h)) (leb-true _ _ i) (leb-true _ _ j)) (λ j. none 6))
         (λ i. none 6))
         (λ h. none 6)
@@ -114,12 +114,12 @@ module _ (t : Tops) (S : Storage) (bytes : AllBytes (S .texts)) (few : t .entrie
   unfolding nextConst
   const-sound =
       let k = getD (S .kinds) (t .consts) 0 in
-      pick-cases Sound (ltb (t .consts) (length (S .kinds))) _ _
-      (λ a. pick-cases Sound (ltb (t .consts) (length (S .words))) _ _
-      (λ b. pick-cases Sound (ltb k 4) _ _
-      (λ c. pick-cases Sound (leb (getD (S .words) (t .consts) 0) (mostOf k)) _ _
+      cond-cases Sound (ltb (t .consts) (length (S .kinds))) _ _
+      (λ a. cond-cases Sound (ltb (t .consts) (length (S .words))) _ _
+      (λ b. cond-cases Sound (ltb k 4) _ _
+      (λ c. cond-cases Sound (leb (getD (S .words) (t .consts) 0) (mostOf k)) _ _
       (λ d. word-sound (ltb-true _ _ a) (ltb-true _ _ b) (ltb-true _ _ c) (leb-true _ _ d)) (λ d. none 6))
-      (λ c. pick-cases Sound (eqb k 4) _ _ (λ d. text-sound (ltb-true _ _ a) (ltb-true _ _ b) (eqb-true _ _ d)) (λ d. none 6)))
+      (λ c. cond-cases Sound (eqb k 4) _ _ (λ d. text-sound (ltb-true _ _ a) (ltb-true _ _ b) (eqb-true _ _ d)) (λ d. none 6)))
       (λ b. none 6))
       (λ a. none 6)
 
@@ -138,16 +138,16 @@ module _ (t : Tops) (S : Storage) (bytes : AllBytes (S .texts)) (few : t .entrie
     entry-sound =
         let r = getD (S .table) (t .entries) 0 in
         let p = getD (S .table) (t .entries + 1) 0 in
-        pick-cases Sound (eqb r 0) _ _
-        (λ a. pick-cases Sound (eqb p 0) _ _
+        cond-cases Sound (eqb r 0) _ _
+        (λ a. cond-cases Sound (eqb p 0) _ _
         (λ b n. record {
           here = record { table = entry-here 0 0 (eqb-true _ _ a) (eqb-true _ _ b); code = refl; kinds = refl; words = refl; texts = refl };
           said = omega arith;
           told = refl;
         })
         (λ b. none 6))
-        (λ a. pick-cases Sound (leb r 255) _ _
-        (λ b. pick-cases Sound (leb p r) _ _
+        (λ a. cond-cases Sound (leb r 255) _ _
+        (λ b. cond-cases Sound (leb p r) _ _
         (λ c n. record {
           here = record { table = entry-here _ _ refl refl; code = refl; kinds = refl; words = refl; texts = refl };
           said = (positive r (eqb-false _ _ a), (leb-true _ _ b, leb-true _ _ c));
@@ -161,11 +161,11 @@ module _ (t : Tops) (S : Storage) (bytes : AllBytes (S .texts)) (few : t .entrie
   sound =
       let cs = getD (S .table) (t .entries + 2) 0 in
       let ks = getD (S .table) (t .entries + 3) 0 in
-      pick-cases Sound (leb (t .entries + 4) (length (S .table))) _ _
-      (λ a. pick-cases Sound (ltb (t .consts) cs) _ _ (λ b. const-sound)
-      (λ b. pick-cases Sound (eqb (t .consts) cs) _ _
-      (λ c. pick-cases Sound (ltb (t .codes) ks) _ _ (λ d. code-sound)
-      (λ d. pick-cases Sound (eqb (t .codes) ks) _ _
+      cond-cases Sound (leb (t .entries + 4) (length (S .table))) _ _
+      (λ a. cond-cases Sound (ltb (t .consts) cs) _ _ (λ b. const-sound)
+      (λ b. cond-cases Sound (eqb (t .consts) cs) _ _
+      (λ c. cond-cases Sound (ltb (t .codes) ks) _ _ (λ d. code-sound)
+      (λ d. cond-cases Sound (eqb (t .codes) ks) _ _
       (λ e. entry-sound (leb-true _ _ a) (sym (eqb-true _ _ c)) (sym (eqb-true _ _ e))) (λ e. none 6)))
       (λ c. none 6)))
       (λ a. none 6)

@@ -3,7 +3,7 @@ use Prim.Native.Nat.{ℕ, _+_, _-_, _*_, _/_, _^_}
 use mathlib.Core.List.{List}
 use lib.ListN.{length, getD}
 use lib.Dec.{leb, ltb, eqb}
-use Rattle.image.specs.Hex.{pick}
+use mathlib.Core.Bool.{cond}
 use Rattle.image.specs.Frames.{payload, mostOf}
 use Rattle.image.specs.declared.Frame.{Frame}
 use Rattle.image.specs.declared.Frame.the-variants.{Open, Const, Str, Code, End, Bad}
@@ -12,37 +12,37 @@ use Rattle.storage.specs.declared.Tops.{Tops}
 -- a string's word: where it starts, which is where the texts are passed up to, and its length
 unfoldable pub nextText : ℕ → ℕ → ℕ → Frame
 nextText top w n =
-    pick (leb (top * 65536) w)
-    (pick (leb (w - top * 65536) 64) (pick (leb (top + (w - top * 65536)) n) (Str (w - top * 65536)) (Bad 6)) (Bad 6))
+    cond (leb (top * 65536) w)
+    (cond (leb (w - top * 65536) 64) (cond (leb (top + (w - top * 65536)) n) (Str (w - top * 65536)) (Bad 6)) (Bad 6))
     (Bad 6)
 
 unfoldable pub nextConst : Tops → List ℕ → List ℕ → List ℕ → Frame
 nextConst t k w x =
-    pick (ltb (t .consts) (length k))
-    (pick (ltb (t .consts) (length w))
-    (pick (ltb (getD k (t .consts) 0) 4)
-    (pick (leb (getD w (t .consts) 0) (mostOf (getD k (t .consts) 0))) (Const (getD k (t .consts) 0) (getD w (t .consts) 0)) (Bad 6))
-    (pick (eqb (getD k (t .consts) 0) 4) (nextText (t .texts) (getD w (t .consts) 0) (length x)) (Bad 6)))
+    cond (ltb (t .consts) (length k))
+    (cond (ltb (t .consts) (length w))
+    (cond (ltb (getD k (t .consts) 0) 4)
+    (cond (leb (getD w (t .consts) 0) (mostOf (getD k (t .consts) 0))) (Const (getD k (t .consts) 0) (getD w (t .consts) 0)) (Bad 6))
+    (cond (eqb (getD k (t .consts) 0) 4) (nextText (t .texts) (getD w (t .consts) 0) (length x)) (Bad 6)))
     (Bad 6))
     (Bad 6)
 
 unfoldable pub nextCode : Tops → List ℕ → Frame
 nextCode t c =
-    pick (ltb (t .codes) (length c)) (pick (ltb (getD c (t .codes) 0) (2 ^ 40)) (Code (getD c (t .codes) 0)) (Bad 6))
+    cond (ltb (t .codes) (length c)) (cond (ltb (getD c (t .codes) 0) (2 ^ 40)) (Code (getD c (t .codes) 0)) (Bad 6))
     (Bad 6)
 
 unfoldable pub nextEntry : Tops → ℕ → ℕ → Frame
 nextEntry t r p =
-    pick (eqb r 0) (pick (eqb p 0) (End (t .entries / 4)) (Bad 6))
-    (pick (leb r 255) (pick (leb p r) (Open r p) (Bad 6)) (Bad 6))
+    cond (eqb r 0) (cond (eqb p 0) (End (t .entries / 4)) (Bad 6))
+    (cond (leb r 255) (cond (leb p r) (Open r p) (Bad 6)) (Bad 6))
 
 unfoldable pub nextOf : Tops → List ℕ → List ℕ → List ℕ → List ℕ → List ℕ → Frame
 nextOf t l c k w x =
-    pick (leb (t .entries + 4) (length l))
-    (pick (ltb (t .consts) (getD l (t .entries + 2) 0)) (nextConst t k w x)
-    (pick (eqb (t .consts) (getD l (t .entries + 2) 0))
-    (pick (ltb (t .codes) (getD l (t .entries + 3) 0)) (nextCode t c)
-    (pick (eqb (t .codes) (getD l (t .entries + 3) 0)) (nextEntry t (getD l (t .entries) 0) (getD l (t .entries + 1) 0)) (Bad 6)))
+    cond (leb (t .entries + 4) (length l))
+    (cond (ltb (t .consts) (getD l (t .entries + 2) 0)) (nextConst t k w x)
+    (cond (eqb (t .consts) (getD l (t .entries + 2) 0))
+    (cond (ltb (t .codes) (getD l (t .entries + 3) 0)) (nextCode t c)
+    (cond (eqb (t .codes) (getD l (t .entries + 3) 0)) (nextEntry t (getD l (t .entries) 0) (getD l (t .entries + 1) 0)) (Bad 6)))
     (Bad 6)))
     (Bad 6)
 

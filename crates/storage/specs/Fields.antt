@@ -3,7 +3,7 @@ use Prim.Native.Nat.{ℕ, _+_, _-_, _*_}
 use mathlib.Core.List.{List}
 use lib.ListN.{getD}
 use lib.Dec.{eqb}
-use Rattle.image.specs.Hex.{pick}
+use mathlib.Core.Bool.{cond}
 
 abbrev pub prototypesOf : List ℕ → ℕ
 prototypesOf table = getD table 0 0
@@ -41,4 +41,4 @@ constantKind table kinds q c = getD kinds (firstConstant table q + c) 0
 
 abbrev pub constantWord : List ℕ → List ℕ → List ℕ → ℕ → ℕ → ℕ
 constantWord table kinds words q c =
-    pick (eqb (constantKind table kinds q c) 4) (firstConstant table q + c) (getD words (firstConstant table q + c) 0)
+    cond (eqb (constantKind table kinds q c) 4) (firstConstant table q + c) (getD words (firstConstant table q + c) 0)

@@ -5,11 +5,11 @@
 --   words   the constants' words: 0, 0 or 1, 64 bits; of a string start * 65,536 + length in the texts
 --   texts   the strings' bytes, one after the other
 use Prim.Native.Nat.{ℕ, _+_, _*_}
-use mathlib.Core.Bool.{Bool, false}
+use mathlib.Core.Bool.{Bool, false, cond}
 use mathlib.Core.List.{List, [], _∷_, _++_}
 use lib.ListN.{length, drop}
 use lib.Dec.{leb}
-use Rattle.image.specs.Hex.{pick}
+use Rattle.slices.specs.Lent.{Slice, atCall, atReturn}
 use Rattle.image.specs.Frames.{F, opens, const, str, code, ends, bad}
 
 pub record Storage : Type 0 where
@@ -21,6 +21,13 @@ pub record Storage : Type 0 where
 
 abbrev pub storage : List ℕ → List ℕ → List ℕ → List ℕ → List ℕ → Storage
 storage t c k w x = record { table = t; code = c; kinds = k; words = w; texts = x }
+
+-- what five lent slices hold, before and after
+abbrev pub storageIn : Slice → Slice → Slice → Slice → Slice → Storage
+storageIn t c k w x = storage (atCall t) (atCall c) (atCall k) (atCall w) (atCall x)
+
+abbrev pub storageOut : Slice → Slice → Slice → Slice → Slice → Storage
+storageOut t c k w x = storage (atReturn t) (atReturn c) (atReturn k) (atReturn w) (atReturn x)
 
 -- ---- what one frame appends
 
@@ -120,8 +127,8 @@ textSize = 32768
 
 unfoldable pub longEnough : Storage → Bool
 longEnough S =
-    pick (leb tableSize (length (S .table)))
-    (pick (leb codeSize (length (S .code)))
-    (pick (leb constantSize (length (S .kinds))) (pick (leb constantSize (length (S .words))) (leb textSize (length (S .texts))) false) false)
+    cond (leb tableSize (length (S .table)))
+    (cond (leb codeSize (length (S .code)))
+    (cond (leb constantSize (length (S .kinds))) (cond (leb constantSize (length (S .words))) (leb textSize (length (S .texts))) false) false)
     false)
     false

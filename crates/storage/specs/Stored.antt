@@ -2,12 +2,11 @@
 -- proofs/Six shows both directions: `readsBack S` is true exactly when there is an image that reads to S, and `imageIn S` is then the only one.
 use Prim.Native.Nat.{ℕ, zero, suc, _+_}
 use mathlib.Core.Path.{_≡_}
-use mathlib.Core.Bool.{Bool, true, false}
+use mathlib.Core.Bool.{Bool, true, false, cond}
 use mathlib.Core.List.{List, [], _∷_, _++_}
 use lib.ListN.{length, getD, take}
 use lib.Dec.{eqb}
 use Rattle.slices.specs.Ranges.{textAt}
-use Rattle.image.specs.Hex.{pick}
 use Rattle.image.specs.Frames.{F, opens, const, str, code, ends, framesOf}
 use Rattle.image.specs.Judge.{judgeOf}
 use Rattle.image.specs.Write.{written}
@@ -23,7 +22,7 @@ use Rattle.storage.specs.declared.Validity.the-variants.{Bytes, Six}
 -- constant i of the whole image
 unfoldable pub constFrame : Storage → ℕ → F
 constFrame S i =
-    pick (eqb (getD (S .kinds) i 0) 4) (str (textAt (getD (S .words) i 0) (S .texts)))
+    cond (eqb (getD (S .kinds) i 0) 4) (str (textAt (getD (S .words) i 0) (S .texts)))
     (const (getD (S .kinds) i 0) (getD (S .words) i 0))
 
 -- n constants from i on, n instructions from i on
@@ -69,13 +68,13 @@ pub record ReadsTo (s : List ℕ) (S : Storage) : Type 0 where
 unfoldable pub startsWith : List ℕ → List ℕ → Bool
 startsWith [] l = true
 startsWith (x ∷ xs) [] = false
-startsWith (x ∷ xs) (y ∷ l) = pick (eqb x y) (startsWith xs l) false
+startsWith (x ∷ xs) (y ∷ l) = cond (eqb x y) (startsWith xs l) false
 
 unfoldable pub standsIn : Storage → Storage → Bool
 standsIn xs S =
-    pick (startsWith (xs .table) (S .table))
-    (pick (startsWith (xs .code) (S .code))
-    (pick (startsWith (xs .kinds) (S .kinds)) (pick (startsWith (xs .words) (S .words)) (startsWith (xs .texts) (S .texts)) false) false)
+    cond (startsWith (xs .table) (S .table))
+    (cond (startsWith (xs .code) (S .code))
+    (cond (startsWith (xs .kinds) (S .kinds)) (cond (startsWith (xs .words) (S .words)) (startsWith (xs .texts) (S .texts)) false) false)
     false)
     false
 
@@ -89,4 +88,4 @@ readsBack S = backIn (judgeOf (imageIn S)) (framesOf (imageIn S)) S
 
 -- the length of the image, or 6
 unfoldable pub validOf : Storage → Validity
-validOf S = pick (readsBack S) (Bytes (length (imageIn S))) Six
+validOf S = cond (readsBack S) (Bytes (length (imageIn S))) Six

@@ -4,7 +4,7 @@ use image::Counts;
 use image::Frame;
 use image::Step;
 ghost use mathlib.Core.Path.{_≡_};
-ghost use Rattle.storage.specs.Layout.{storage, longEnough};
+ghost use Rattle.storage.specs.Layout.{longEnough, storageIn};
 ghost use Prim.Native.Nat.{_+_, _-_, _≤_, _<_};
 ghost use Rattle.storage.specs.Fields.{prototypesOf, field, registersOf, parametersOf, firstConstant, firstInstruction, constantsOf, instructionsOf, instructionAt, constantKind, constantWord};
 ghost use Rattle.storage.specs.Stored.{validOf};
@@ -27,7 +27,7 @@ pub fn is_long_enough(
     const_words: &[u64],
     texts: &[u8],
 ) -> bool
-    ensures { λ r. ⌜ r ≡ longEnough (storage (now (table .entry)) (now (code .entry)) (now («const_kinds» .entry)) (now («const_words» .entry)) (now (texts .entry))) ⌝ }
+    ensures { λ r. ⌜ r ≡ longEnough (storageIn table code «const_kinds» «const_words» texts) ⌝ }
 {
     if table.len() < TABLE {
         return false;
@@ -49,10 +49,25 @@ pub fn is_long_enough(
 
 // ---- fields by name
 
+// Where they lie in the table: the number of prototypes, then the entries, each of so many words, and in it its fields.
+pub const PROTOTYPES_AT: usize = 0;
+
+pub const ENTRIES_AT: usize = 1;
+
+pub const ENTRY: usize = 4;
+
+pub const REGISTERS_AT: usize = 0;
+
+pub const PARAMETERS_AT: usize = 1;
+
+pub const CONSTANT_AT: usize = 2;
+
+pub const INSTRUCTION_AT: usize = 3;
+
 pub fn prototypes(table: &[u64]) -> usize
     ensures { λ r. ⌜ r ≡ prototypesOf (now (table .entry)) ⌝ }
 {
-    slices::word_at(table, 0, 0) as usize
+    slices::word_at(table, 0, PROTOTYPES_AT) as usize
 }
 
 // Field i of prototype q's entry; a prototype that is not there has zeros.
@@ -63,31 +78,31 @@ fn field_at(table: &[u64], q: usize, i: usize) -> usize
     if table.len() <= q {
         return 0;
     }
-    slices::word_at(table, 1 + 4 * q, i) as usize
+    slices::word_at(table, ENTRIES_AT + ENTRY * q, i) as usize
 }
 
 pub fn registers(table: &[u64], q: usize) -> usize
     ensures { λ r. ⌜ r ≡ registersOf (now (table .entry)) q ⌝ }
 {
-    field_at(table, q, 0)
+    field_at(table, q, REGISTERS_AT)
 }
 
 pub fn parameters(table: &[u64], q: usize) -> usize
     ensures { λ r. ⌜ r ≡ parametersOf (now (table .entry)) q ⌝ }
 {
-    field_at(table, q, 1)
+    field_at(table, q, PARAMETERS_AT)
 }
 
 pub fn first_constant(table: &[u64], q: usize) -> usize
     ensures { λ r. ⌜ r ≡ firstConstant (now (table .entry)) q ⌝ }
 {
-    field_at(table, q, 2)
+    field_at(table, q, CONSTANT_AT)
 }
 
 pub fn first_instruction(table: &[u64], q: usize) -> usize
     ensures { λ r. ⌜ r ≡ firstInstruction (now (table .entry)) q ⌝ }
 {
-    field_at(table, q, 3)
+    field_at(table, q, INSTRUCTION_AT)
 }
 
 // How much field i grows from prototype q's entry to the next.
@@ -109,13 +124,13 @@ fn growth(table: &[u64], q: usize, i: usize) -> usize
 pub fn constants(table: &[u64], q: usize) -> usize
     ensures { λ r. ⌜ r ≡ constantsOf (now (table .entry)) q ⌝ }
 {
-    growth(table, q, 2)
+    growth(table, q, CONSTANT_AT)
 }
 
 pub fn instructions(table: &[u64], q: usize) -> usize
     ensures { λ r. ⌜ r ≡ instructionsOf (now (table .entry)) q ⌝ }
 {
-    growth(table, q, 3)
+    growth(table, q, INSTRUCTION_AT)
 }
 
 // Instruction i of prototype q.
@@ -354,7 +369,7 @@ pub fn valid(
     const_words: &[u64],
     texts: &[u8],
 ) -> Validity
-    ensures { λ r. ⌜ r ≡ validOf (storage (now (table .entry)) (now (code .entry)) (now («const_kinds» .entry)) (now («const_words» .entry)) (now (texts .entry))) ⌝ }
+    ensures { λ r. ⌜ r ≡ validOf (storageIn table code «const_kinds» «const_words» texts) ⌝ }
 {
     let mut t = Tops {
         entries: 1,

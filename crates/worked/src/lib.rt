@@ -3,7 +3,7 @@
 use constant::Answer;
 use constant::Value;
 use number::Whole;
-use vm::Outcome;
+use step::Outcome;
 ghost use mathlib.Core.Path.{_≡_};
 ghost use lib.ListN.{getD};
 ghost use Rattle.worked.specs.Thirteen.{ranOn};
@@ -45,9 +45,9 @@ fn run_thirteen(budget: u32) -> Ran
         &mut const_words,
         &mut texts,
     );
-    let mut frames = [0u64; activation::FRAMES];
-    let mut kinds = [0u8; fitness::REGISTERS];
-    let mut words = [0u64; fitness::REGISTERS];
+    let mut frames = [0u64; state::FRAMES];
+    let mut kinds = [0u8; state::REGISTERS];
+    let mut words = [0u64; state::REGISTERS];
     starter::start(
         &table,
         &code,

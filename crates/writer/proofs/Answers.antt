@@ -7,7 +7,7 @@ use mathlib.Core.List.{List, _++_}
 use lib.ListN.{length, take, drop}
 use lib.Seq.{sets-eq}
 use borrow.Author.Tests.{le-leb, lt-leb, not-true}
-use Rattle.image.proofs.Cases.{by-bool}
+use Rattle.choices.proofs.Choices.{by-bool}
 use Rattle.storage.specs.Layout.{Storage, longEnough, laid}
 use Rattle.storage.specs.Stored.{imageIn, readsBack, validOf}
 use Rattle.storage.specs.declared.Validity.{Validity}

@@ -13,7 +13,7 @@ use Rattle.image.specs.Frames.{framesOf}
 use Rattle.image.specs.Judge.{judgeOf}
 use Rattle.image.specs.declared.Judged.{Judged}
 use Rattle.image.specs.declared.Judged.the-variants.{Accepted}
-use Rattle.image.proofs.Cases.{by-bool, pick-true}
+use Rattle.choices.proofs.Choices.{by-bool, cond-true}
 use Rattle.storage.specs.Layout.{Storage, contentsOf, laid, laidIn, tableSize, codeSize, constantSize, textSize, longEnough}
 use Rattle.storage.specs.Stored.{ReadsTo, imageIn, readsBack}
 use Rattle.storage.proofs.Six.{only-image, one-image, readable, readable-back}
@@ -53,10 +53,10 @@ read-reads {s} {q} {S} {S'} r =
 pub left-long : (X S : Storage) → longEnough S ≡ true → longEnough (laidIn X S) ≡ true
 unfolding longEnough
 left-long X S h =
-    let a = pick-true _ _ h in
-    let b = pick-true _ _ (a .1) in
-    let c = pick-true _ _ (b .1) in
-    let d = pick-true _ _ (c .1) in
+    let a = cond-true _ _ h in
+    let b = cond-true _ _ (a .1) in
+    let c = cond-true _ _ (b .1) in
+    let d = cond-true _ _ (c .1) in
     simp (
       longer (X .table) (S .table) tableSize (a .0),
       longer (X .code) (S .code) codeSize (b .0),

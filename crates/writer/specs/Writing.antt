@@ -6,7 +6,7 @@ use mathlib.Core.Path.{_≡_}
 use mathlib.Core.List.{List, [], _∷_, _++_}
 use lib.ListN.{length}
 use lib.Dec.{leb}
-use Rattle.image.specs.Hex.{pick}
+use mathlib.Core.Bool.{cond}
 use Rattle.image.specs.Write.{hexOf}
 use Rattle.storage.specs.Layout.{Storage, longEnough, laid}
 use Rattle.storage.specs.Stored.{imageIn, readsBack}
@@ -15,8 +15,8 @@ use Rattle.writer.specs.declared.Wrote.the-variants.{Bytes, Refused}
 
 unfoldable pub writeOf : Storage → List ℕ → Wrote
 writeOf S out =
-    pick (longEnough S)
-    (pick (readsBack S) (pick (leb (length (imageIn S)) (length out)) (Bytes (length (imageIn S))) (Refused 5)) (Refused 6))
+    cond (longEnough S)
+    (cond (readsBack S) (cond (leb (length (imageIn S)) (length out)) (Bytes (length (imageIn S))) (Refused 5)) (Refused 6))
     (Refused 5)
 
 unfoldable pub outOf : Wrote → Storage → List ℕ → List ℕ
@@ -34,5 +34,5 @@ lineOf bytes = hexOf bytes ++ 10 ∷ []
 
 -- at the front of an output that has room for it
 pub record Lined (line : List ℕ) (r : ℕ) (out out' : List ℕ) : Type 0 where
-  pub answer : r ≡ pick (leb (length line) (length out)) (length line) 0
-  pub left : out' ≡ pick (leb (length line) (length out)) (laid line out) out
+  pub answer : r ≡ cond (leb (length line) (length out)) (length line) 0
+  pub left : out' ≡ cond (leb (length line) (length out)) (laid line out) out

@@ -7,7 +7,7 @@ ghost use mathlib.Core.Path.{_≡_};
 ghost use mathlib.Core.List.{[], _∷_, _++_};
 ghost use Prim.Native.Nat.{ℕ, _+_, _<_};
 ghost use Rattle.image.specs.Write.{written};
-ghost use Rattle.storage.specs.Layout.{storage};
+ghost use Rattle.storage.specs.Layout.{storage, storageIn};
 ghost use Rattle.storage.specs.Fields.{prototypesOf};
 ghost use Rattle.storage.specs.Stored.{constFrame, constFrames, codeFrames, protoFrames, imageIn};
 ghost use Rattle.writer.specs.Writing.{Written, lineOf, Lined};
@@ -90,7 +90,7 @@ fn put_prototype(
     at: usize,
 ) -> usize
     requires { ⌜ Narrow (now table) q × Room (now out) at (written (protoFrames (storage (now table) (now code) (now «const_kinds») (now «const_words») (now texts)) q)) ⌝ }
-    ensures { λ r. ⌜ Put (now (out .entry)) at (written (protoFrames (storage (now (table .entry)) (now (code .entry)) (now («const_kinds» .entry)) (now («const_words» .entry)) (now (texts .entry))) q)) r (now (out .exit)) ⌝ }
+    ensures { λ r. ⌜ Put (now (out .entry)) at (written (protoFrames (storageIn table code «const_kinds» «const_words» texts) q)) r (now (out .exit)) ⌝ }
 {
     let registers = storage::registers(table, q) as u8;
     let parameters = storage::parameters(table, q) as u8;
@@ -113,7 +113,7 @@ fn put_image(
     out: &mut [u8],
 ) -> usize
     requires { ⌜ (prototypesOf (now table) < 256) × (((q : ℕ) → q < prototypesOf (now table) → Narrow (now table) q) × Room (now out) 0 (imageIn (storage (now table) (now code) (now «const_kinds») (now «const_words») (now texts)))) ⌝ }
-    ensures { λ r. ⌜ Put (now (out .entry)) 0 (imageIn (storage (now (table .entry)) (now (code .entry)) (now («const_kinds» .entry)) (now («const_words» .entry)) (now (texts .entry)))) r (now (out .exit)) ⌝ }
+    ensures { λ r. ⌜ Put (now (out .entry)) 0 (imageIn (storageIn table code «const_kinds» «const_words» texts)) r (now (out .exit)) ⌝ }
 {
     let n = storage::prototypes(table);
     let mut to = 0;
@@ -135,7 +135,7 @@ pub fn write(
     texts: &[u8],
     out: &mut [u8],
 ) -> Wrote
-    ensures { λ r. ⌜ Written (storage (now (table .entry)) (now (code .entry)) (now («const_kinds» .entry)) (now («const_words» .entry)) (now (texts .entry))) r (now (out .entry)) (now (out .exit)) ⌝ }
+    ensures { λ r. ⌜ Written (storageIn table code «const_kinds» «const_words» texts) r (now (out .entry)) (now (out .exit)) ⌝ }
 {
     if !storage::is_long_enough(table, code, const_kinds, const_words, texts) {
         return Wrote::Refused(5);

@@ -1,11 +1,10 @@
 -- `checker::check` meets its contract: 5, then 6, then the search. Assumes nothing.
 use Prim.Native.Nat.{ℕ}
 use mathlib.Core.Path.{_≡_, refl, sym, _∙_}
-use mathlib.Core.Bool.{Bool, true, false, not}
+use mathlib.Core.Bool.{Bool, true, false, not, cond}
 use borrow.Author.Needs.{needs}
 use borrow.Author.Tests.{not-true, not-false}
 use lib.ListN.{length}
-use Rattle.image.specs.Hex.{pick}
 use Rattle.storage.specs.Layout.{Storage, longEnough}
 use Rattle.storage.specs.Stored.{imageIn, readsBack, validOf}
 use Rattle.storage.specs.declared.Validity.{Validity}
@@ -16,11 +15,11 @@ use Rattle.checker.specs.declared.Checked.the-variants.{Refused}
 use Rattle.checker.proofs.check.Statement.{statement}
 use Rattle.checker.proofs.check.Tie as tie
 
-not-valid : (b : Bool) (n : ℕ) → pick b (Bytes n) Six ≡ Six → b ≡ false
+not-valid : (b : Bool) (n : ℕ) → cond b (Bytes n) Six ≡ Six → b ≡ false
 not-valid true n e = cc
 not-valid false n e = refl
 
-is-valid : (b : Bool) (n m : ℕ) → pick b (Bytes n) Six ≡ Bytes m → b ≡ true
+is-valid : (b : Bool) (n m : ℕ) → cond b (Bytes n) Six ≡ Bytes m → b ≡ true
 is-valid true n m e = refl
 is-valid false n m e = cc
 
@@ -38,23 +37,8 @@ module _ (S : Storage) (long : Bool) (e : long ≡ longEnough S) where
     unfolding checkOf validOf
     rest m g r h = rw (← e, not-false long t, is-valid (readsBack S) (length (imageIn S)) m (sym f ∙ g)) h
 
-is-long-enough-requires : tie.Need-is-long-enough-requires
-is-long-enough-requires c κs = search needs
-
 returns : tie.Need-returns
 returns c = five _ _ (c .before .is-long-enough .ensures) (c .if1 .taken)
-
-valid-requires : tie.Need-valid-requires
-valid-requires c κs = search needs
-
-enum-told : tie.Need-enum-told
-enum-told c = search needs
-
-enum-told-2 : tie.Need-enum-told-2
-enum-told-2 c = search needs
-
-search-requires : tie.Need-search-requires
-search-requires c κs = search needs
 
 returns-2 : tie.Need-returns-2
 returns-2 c =
@@ -71,11 +55,7 @@ pub check-spec : {M : Type 1} → statement M
 check-spec =
     tie.close
     (tie.spec
-    is-long-enough-requires
+    (λ c κs. search needs)
     returns
-    valid-requires
-    enum-told
-    enum-told-2
-    search-requires
-    returns-2
-    returns-3)
+    (λ c κs. search needs) (λ c. search needs) (λ c. search needs) (λ c κs. search needs)
+    returns-2 returns-3)

@@ -11,13 +11,13 @@ use Rattle.checker.proofs.search.Statement.{statement}
 use Rattle.checker.proofs.search.Tie as tie
 
 abbrev Inv-loop : tie.InvT-loop
-Inv-loop table code prototypes found₀ q l instructions i₀ found i =
+Inv-loop table code prototypes found₀ q instructions i₀ found i =
     (i ≤ instructions) × (found ≡ Accepted)
     × (protosFrom table code (prototypes - q) q
     ≡ codeFrom table code q (instructions - i) i (protosFrom table code (prototypes - (q + 1)) (q + 1)))
 
 abbrev μ-loop : tie.MeasureT-loop
-μ-loop table code prototypes found₀ q l instructions i₀ found i = instructions - i
+μ-loop table code prototypes found₀ q instructions i₀ found i = instructions - i
 
 abbrev Inv-search : tie.InvT-search
 Inv-search table code prototypes found₀ q₀ found q =
@@ -26,30 +26,18 @@ Inv-search table code prototypes found₀ q₀ found q =
 abbrev μ-search : tie.MeasureT-search
 μ-search table code prototypes found₀ q₀ found q = prototypes - q
 
-prototypes-requires : tie.Need-prototypes-requires Inv-loop μ-loop Inv-search μ-search
-prototypes-requires c κs = search needs
-
 returns : tie.Need-returns Inv-loop μ-loop Inv-search μ-search
 returns c = search-none _ _ _ (c .before .prototypes .ensures) (c .if1 .taken)
 
 search-holds : tie.Need-search-holds Inv-loop μ-loop Inv-search μ-search
 search-holds c = (omega arith, refl, search-start _ _ _ (c .before .prototypes .ensures) (c .if1 .left))
 
-limits-of-requires : tie.Need-limits-of-requires Inv-loop μ-loop Inv-search μ-search
-limits-of-requires c κs = search needs
-
 loop-holds : tie.Need-loop-holds Inv-loop μ-loop Inv-search μ-search
 loop-holds c = (
   omega arith,
   c .before .before .before .search .inv .1,
-  proto-open _ _ _ _ _ (c .before .limits-of .ensures) (c .before .before .search-test .taken) (c .if2 .left),
+  proto-open _ _ _ _ _ (c .before .instructions .ensures) (c .before .before .search-test .taken) (c .if2 .left),
 )
-
-instruction-requires : tie.Need-instruction-requires Inv-loop μ-loop Inv-search μ-search
-instruction-requires c κs = search needs
-
-broken-requires : tie.Need-broken-requires Inv-loop μ-loop Inv-search μ-search
-broken-requires c κs = search needs
 
 add-i : tie.Need-add-i Inv-loop μ-loop Inv-search μ-search
 add-i c = omega arith
@@ -60,7 +48,7 @@ loop-less c = omega arith
 loop-again : tie.Need-loop-again Inv-loop μ-loop Inv-search μ-search
 loop-again c =
     let s = c .before .before .before .before in
-    let n = number _ _ _ _ _ _ _ (s .before .before .limits-of .ensures) (c .before .before .instruction .ensures) (c .before .broken .ensures) in
+    let n = number _ _ _ _ _ _ (c .before .before .site-of .ensures) (c .before .broken .ensures) in
     (omega arith, s .loop .inv .1, s .loop .inv .2 ∙ code-good _ _ _ _ _ _ _ n (c .before .before .before .loop-test .taken) (c .if3 .left))
 
 add-q : tie.Need-add-q Inv-loop μ-loop Inv-search μ-search
@@ -82,12 +70,12 @@ returns-2 c = c .before .search .inv .1 ∙ sym (c .before .search .inv .2 ∙ s
 returns-3 : tie.Need-returns-3 Inv-loop μ-loop Inv-search μ-search
 returns-3 c =
     sym (c .before .before .before .search .inv .2
-    ∙ proto-empty _ _ _ _ _ (c .before .limits-of .ensures) (c .before .before .search-test .taken) (c .if2 .taken))
+    ∙ proto-empty _ _ _ _ _ (c .before .instructions .ensures) (c .before .before .search-test .taken) (c .if2 .taken))
 
 returns-4 : tie.Need-returns-4 Inv-loop μ-loop Inv-search μ-search
 returns-4 c =
     let s = c .before .before .before .before in
-    let n = number _ _ _ _ _ _ _ (s .before .before .limits-of .ensures) (c .before .before .instruction .ensures) (c .before .broken .ensures) in
+    let n = number _ _ _ _ _ _ (c .before .before .site-of .ensures) (c .before .broken .ensures) in
     sym (s .before .before .before .before .search .inv .2 ∙ s .loop .inv .2
     ∙ code-bad _ _ _ _ _ _ _ n (c .before .before .before .loop-test .taken) (c .if3 .taken))
 
@@ -95,23 +83,10 @@ pub search-spec : {M : Type 1} → statement M
 search-spec =
     tie.close
     (tie.spec
-    Inv-loop
-    μ-loop
-    Inv-search
-    μ-search
-    prototypes-requires
-    returns
-    search-holds
-    limits-of-requires
+    Inv-loop μ-loop Inv-search μ-search
+    (λ c κs. search needs)
+    returns search-holds
+    (λ c κs. search needs)
     loop-holds
-    instruction-requires
-    broken-requires
-    add-i
-    loop-less
-    loop-again
-    add-q
-    search-less
-    search-again
-    returns-2
-    returns-3
-    returns-4)
+    (λ c κs. search needs) (λ c κs. search needs)
+    add-i loop-less loop-again add-q search-less search-again returns-2 returns-3 returns-4)

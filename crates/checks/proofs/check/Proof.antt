@@ -24,10 +24,8 @@ pub check-spec : {M : Type 1} → statement M
 check-spec =
     tie.close
     (tie.spec
-    (λ c κs. search needs) (λ c κs. search needs) (λ c κs. search needs) (λ c κs. search needs) (λ c κs. search needs)
-    slice-aggregate-check
-    slice-aggregate-check-2
-    slice-aggregate-check-3
-    slice-aggregate-check-4
+    (λ c κs. search needs) (λ c κs. search needs) (λ c κs. search needs) (λ c κs. search needs)
+    (λ c κs. search needs)
+    slice-aggregate-check slice-aggregate-check-2 slice-aggregate-check-3 slice-aggregate-check-4
     slice-aggregate-check-5
     (λ c κs. search needs) (λ c κs. search needs) (λ c. search needs))

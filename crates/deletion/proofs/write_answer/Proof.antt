@@ -17,6 +17,5 @@ write-answer-spec =
     tie.close
     (tie.spec
     (λ c. search needs) (λ c κs. search needs)
-    array-share-prefix-out
-    slice-aggregate-write-all
+    array-share-prefix-out slice-aggregate-write-all
     (λ c κs. search needs) (λ c. search needs))

@@ -16,7 +16,7 @@ pub write-value-spec : {M : Type 1} → statement M
 write-value-spec =
     tie.close
     (tie.spec
-    (λ c κs. search needs) (λ c κs. search needs) (λ c κs. search needs) (λ c. search needs) (λ c κs. search needs)
-    array-share-prefix-out
-    slice-aggregate-write-all
+    (λ c κs. search needs) (λ c κs. search needs) (λ c κs. search needs) (λ c. search needs)
+    (λ c κs. search needs)
+    array-share-prefix-out slice-aggregate-write-all
     (λ c κs. search needs) (λ c. search needs))

@@ -4,8 +4,10 @@ use mathlib.Core.Bool.{true}
 use Prim.Native.Nat.{_-_, _≤_}
 use native.Mathlib.Omega.{arith}
 use borrow.Author.Needs.{needs}
-use Rattle.fitness.specs.Fit.{allBelow, registerFits}
-use Rattle.fitness.proofs.Tests.{denied, granted, all-none, all-more, all-fails, all-end}
+use Rattle.fitness.specs.Fit.{registerFits}
+use Rattle.choices.specs.Below.{allBelow}
+use Rattle.choices.proofs.Below.{all-none, all-more, all-fails, all-end}
+use Rattle.choices.proofs.Choices.{denied, granted}
 use Rattle.fitness.proofs.all_fit.Statement.{statement}
 use Rattle.fitness.proofs.all_fit.Tie as tie
 
@@ -17,9 +19,6 @@ abbrev μ-loop : tie.MeasureT-loop
 
 loop-holds : tie.Need-loop-holds Inv-loop μ-loop
 loop-holds c = (omega arith, all-none _)
-
-register-fits-requires : tie.Need-register-fits-requires Inv-loop μ-loop
-register-fits-requires c κs = search needs
 
 returns : tie.Need-returns Inv-loop μ-loop
 returns c =
@@ -42,12 +41,6 @@ pub all-fit-spec : {M : Type 1} → statement M
 all-fit-spec =
     tie.close
     (tie.spec
-    Inv-loop
-    μ-loop
-    loop-holds
-    register-fits-requires
-    returns
-    add-i
-    loop-less
-    loop-again
-    returns-2)
+    Inv-loop μ-loop loop-holds
+    (λ c κs. search needs)
+    returns add-i loop-less loop-again returns-2)

@@ -4,8 +4,10 @@ use mathlib.Core.Bool.{true}
 use Prim.Native.Nat.{_-_, _≤_}
 use native.Mathlib.Omega.{arith}
 use borrow.Author.Needs.{needs}
-use Rattle.fitness.specs.Fit.{allBelow, thereIn}
-use Rattle.fitness.proofs.Tests.{denied, granted, all-none, all-more, all-fails, all-end}
+use Rattle.fitness.specs.Fit.{thereIn}
+use Rattle.choices.specs.Below.{allBelow}
+use Rattle.choices.proofs.Below.{all-none, all-more, all-fails, all-end}
+use Rattle.choices.proofs.Choices.{denied, granted}
 use Rattle.fitness.proofs.all_there.Statement.{statement}
 use Rattle.fitness.proofs.all_there.Tie as tie
 
@@ -17,9 +19,6 @@ abbrev μ-loop : tie.MeasureT-loop
 
 loop-holds : tie.Need-loop-holds Inv-loop μ-loop
 loop-holds c = (omega arith, all-none _)
-
-is-there-requires : tie.Need-is-there-requires Inv-loop μ-loop
-is-there-requires c κs = search needs
 
 returns : tie.Need-returns Inv-loop μ-loop
 returns c = all-fails _ _ _ (c .before .before .loop-test .taken) (denied _ _ (c .before .is-there .ensures) (c .if1 .taken))
@@ -41,12 +40,6 @@ pub all-there-spec : {M : Type 1} → statement M
 all-there-spec =
     tie.close
     (tie.spec
-    Inv-loop
-    μ-loop
-    loop-holds
-    is-there-requires
-    returns
-    add-i
-    loop-less
-    loop-again
-    returns-2)
+    Inv-loop μ-loop loop-holds
+    (λ c κs. search needs)
+    returns add-i loop-less loop-again returns-2)

@@ -4,20 +4,8 @@ use Rattle.fitness.proofs.Parts.{before-none, before-some}
 use Rattle.fitness.proofs.instruction_before.Statement.{statement}
 use Rattle.fitness.proofs.instruction_before.Tie as tie
 
-instruction-of-requires : tie.Need-instruction-of-requires
-instruction-of-requires c κs = search needs
-
 returns : tie.Need-returns
 returns c = before-none _ _ _ _ _ (c .before .instruction-of .ensures) (c .if1 .taken)
-
-prototype-of-requires : tie.Need-prototype-of-requires
-prototype-of-requires c κs = search needs
-
-sub-decoded : tie.Need-sub-decoded
-sub-decoded c = search needs
-
-decoded-requires : tie.Need-decoded-requires
-decoded-requires c κs = search needs
 
 returns-2 : tie.Need-returns-2
 returns-2 c =
@@ -28,9 +16,7 @@ pub instruction-before-spec : {M : Type 1} → statement M
 instruction-before-spec =
     tie.close
     (tie.spec
-    instruction-of-requires
+    (λ c κs. search needs)
     returns
-    prototype-of-requires
-    sub-decoded
-    decoded-requires
+    (λ c κs. search needs) (λ c. search needs) (λ c κs. search needs)
     returns-2)

@@ -1,12 +1,9 @@
 -- `fitness::stack_fits` meets its contract: each return is the definition's test that fails, or the last one. Assumes nothing.
 use borrow.Author.Needs.{needs}
-use Rattle.fitness.proofs.Parts.{stack-none, stack-deep, stack-far, stack-away, stack-rest}
-use Rattle.fitness.proofs.Tests.{denied, granted}
+use Rattle.fitness.proofs.Facts.{stack-none, stack-deep, stack-far, stack-away, stack-rest}
+use Rattle.choices.proofs.Choices.{denied, granted}
 use Rattle.fitness.proofs.stack_fits.Statement.{statement}
 use Rattle.fitness.proofs.stack_fits.Tie as tie
-
-depth-requires : tie.Need-depth-requires
-depth-requires c κs = search needs
 
 returns : tie.Need-returns
 returns c = stack-none _ _ _ _ (c .before .depth .ensures) (c .if1 .taken)
@@ -14,23 +11,14 @@ returns c = stack-none _ _ _ _ (c .before .depth .ensures) (c .if1 .taken)
 returns-2 : tie.Need-returns-2
 returns-2 c = stack-deep _ _ _ _ (c .before .before .depth .ensures) (c .if2 .taken)
 
-base-of-requires : tie.Need-base-of-requires
-base-of-requires c κs = search needs
-
 returns-3 : tie.Need-returns-3
 returns-3 c =
     stack-far _ _ _ _ (c .before .before .before .before .depth .ensures) _ (c .before .base-of .ensures) (c .if3 .taken)
-
-all-there-requires : tie.Need-all-there-requires
-all-there-requires c κs = search needs
 
 returns-4 : tie.Need-returns-4
 returns-4 c =
     stack-away _ _ _ _ (c .before .before .before .before .before .before .depth .ensures)
     (denied _ _ (c .before .all-there .ensures) (c .if4 .taken))
-
-all-wait-requires : tie.Need-all-wait-requires
-all-wait-requires c κs = search needs
 
 returns-5 : tie.Need-returns-5
 returns-5 c =
@@ -44,12 +32,11 @@ pub stack-fits-spec : {M : Type 1} → statement M
 stack-fits-spec =
     tie.close
     (tie.spec
-    depth-requires
-    returns
-    returns-2
-    base-of-requires
+    (λ c κs. search needs)
+    returns returns-2
+    (λ c κs. search needs)
     returns-3
-    all-there-requires
+    (λ c κs. search needs)
     returns-4
-    all-wait-requires
+    (λ c κs. search needs)
     returns-5)

@@ -1,29 +1,17 @@
 -- `fitness::value_fits` meets its contract: no value, a function, a string, and any other value. Assumes nothing.
 use borrow.Author.Needs.{needs}
 use Rattle.fitness.proofs.Parts.{value-none, value-function, value-string, value-other}
-use Rattle.fitness.proofs.Tests.{denied, granted}
+use Rattle.choices.proofs.Choices.{denied, granted}
 use Rattle.fitness.proofs.value_fits.Statement.{statement}
 use Rattle.fitness.proofs.value_fits.Tie as tie
 
-is-value-requires : tie.Need-is-value-requires
-is-value-requires c κs = search needs
-
 returns : tie.Need-returns
 returns c = value-none _ _ _ _ (denied _ _ (c .before .is-value .ensures) (c .if1 .taken))
-
-prototypes-requires : tie.Need-prototypes-requires
-prototypes-requires c κs = search needs
 
 returns-2 : tie.Need-returns-2
 returns-2 c =
     let s = c .before .before in
     value-function _ _ _ _ (granted _ _ (s .before .is-value .ensures) (s .if1 .left)) _ (c .before .prototypes .ensures) (c .if2 .taken)
-
-first-constant-requires : tie.Need-first-constant-requires
-first-constant-requires c κs = search needs
-
-byte-at-requires : tie.Need-byte-at-requires
-byte-at-requires c κs = search needs
 
 returns-3 : tie.Need-returns-3
 returns-3 c =
@@ -41,11 +29,9 @@ pub value-fits-spec : {M : Type 1} → statement M
 value-fits-spec =
     tie.close
     (tie.spec
-    is-value-requires
+    (λ c κs. search needs)
     returns
-    prototypes-requires
+    (λ c κs. search needs)
     returns-2
-    first-constant-requires
-    byte-at-requires
-    returns-3
-    returns-4)
+    (λ c κs. search needs) (λ c κs. search needs)
+    returns-3 returns-4)

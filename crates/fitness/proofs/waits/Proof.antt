@@ -1,19 +1,12 @@
 -- `fitness::waits` meets its contract: the instruction before is asked whether it is a Call. Assumes nothing.
-use mathlib.Core.Path.{ap, _∙_}
 use borrow.Author.Needs.{needs}
-use Rattle.fitness.specs.Fit.{isCall, waitsIn}
+use Rattle.fitness.specs.Fit.{waitsIn}
 use Rattle.fitness.proofs.waits.Statement.{statement}
 use Rattle.fitness.proofs.waits.Tie as tie
 
-instruction-before-requires : tie.Need-instruction-before-requires
-instruction-before-requires c κs = search needs
-
-is-call-requires : tie.Need-is-call-requires
-is-call-requires c κs = search needs
-
 returns : tie.Need-returns
 unfolding waitsIn
-returns c = c .is-call .ensures ∙ ap isCall (c .before .instruction-before .ensures)
+returns c = rw (← c .before .before .instruction-before .ensures, ← c .before .class-of .ensures) (c .is-call .ensures)
 
 pub waits-spec : {M : Type 1} → statement M
-waits-spec = tie.close (tie.spec instruction-before-requires is-call-requires returns)
+waits-spec = tie.close (tie.spec (λ c κs. search needs) (λ c κs. search needs) (λ c κs. search needs) returns)

@@ -9,9 +9,6 @@ returns : tie.Need-returns
 unfolding codeStep
 returns c = simp (lt-leb _ _ (c .if1 .taken))
 
-add-t6 : tie.Need-add-t6
-add-t6 c = search needs
-
 returns-2 : tie.Need-returns-2
 unfolding codeStep
 returns-2 c = simp (le-leb _ _ (c .before .if1 .left), lt-ltb _ _ (c .if2 .taken))
@@ -21,4 +18,4 @@ unfolding codeStep
 returns-3 c = simp (le-leb _ _ (c .before .if1 .left), le-ltb _ _ (c .if2 .left))
 
 pub code-step-spec : {M : Type 1} → statement M
-code-step-spec = tie.close (tie.spec returns add-t6 returns-2 returns-3)
+code-step-spec = tie.close (tie.spec returns (λ c. search needs) returns-2 returns-3)

@@ -9,9 +9,6 @@ returns : tie.Need-returns
 unfolding constStep
 returns c = simp (lt-leb _ _ (c .if1 .taken))
 
-add-t7 : tie.Need-add-t7
-add-t7 c = search needs
-
 returns-2 : tie.Need-returns-2
 unfolding constStep
 returns-2 c = simp (le-leb _ _ (c .before .before .if1 .left), eq-eqb _ _ (c .before .if2 .taken), lt-ltb _ _ (c .if3 .taken))
@@ -25,4 +22,4 @@ unfolding constStep
 returns-4 c = simp (le-leb _ _ (c .before .if1 .left), ne-eqb _ _ (c .if2 .left))
 
 pub const-step-spec : {M : Type 1} → statement M
-const-step-spec = tie.close (tie.spec returns add-t7 returns-2 returns-3 returns-4)
+const-step-spec = tie.close (tie.spec returns (λ c. search needs) returns-2 returns-3 returns-4)

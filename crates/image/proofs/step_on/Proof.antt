@@ -6,46 +6,13 @@ use Rattle.image.specs.Judge.{stepOf}
 use Rattle.image.proofs.step_on.Statement.{statement}
 use Rattle.image.proofs.step_on.Tie as tie
 
-enum-told : tie.Need-enum-told
-enum-told c = search needs
-
-add-t9 : tie.Need-add-t9
-add-t9 c = search needs
-
 returns : tie.Need-returns
 unfolding stepOf
 returns c = rw (c .before .enum-told .given .1) (simp (lt-ltb _ _ (c .if1 .taken)))
 
-enum-told-2 : tie.Need-enum-told-2
-enum-told-2 c = search needs
-
-const-step-requires : tie.Need-const-step-requires
-const-step-requires c κs = search needs
-
-enum-told-3 : tie.Need-enum-told-3
-enum-told-3 c = search needs
-
-const-step-requires-2 : tie.Need-const-step-requires-2
-const-step-requires-2 c κs = search needs
-
-enum-told-4 : tie.Need-enum-told-4
-enum-told-4 c = search needs
-
-code-step-requires : tie.Need-code-step-requires
-code-step-requires c κs = search needs
-
-enum-known-f : tie.Need-enum-known-f
-enum-known-f c = search needs
-
-cast-if2 : tie.Need-cast-if2
-cast-if2 c = search needs
-
 returns-2 : tie.Need-returns-2
 unfolding stepOf
 returns-2 c = rw (c .before .before .f .given .1) (simp (eq-eqb _ _ (c .if2 .taken)))
-
-enum-known-f-2 : tie.Need-enum-known-f-2
-enum-known-f-2 c = search needs
 
 returns-3 : tie.Need-returns-3
 unfolding stepOf
@@ -75,22 +42,10 @@ pub step-on-spec : {M : Type 1} → statement M
 step-on-spec =
     tie.close
     (tie.spec
-    enum-told
-    add-t9
+    (λ c. search needs) (λ c. search needs)
     returns
-    enum-told-2
-    const-step-requires
-    enum-told-3
-    const-step-requires-2
-    enum-told-4
-    code-step-requires
-    enum-known-f
-    cast-if2
+    (λ c. search needs) (λ c κs. search needs) (λ c. search needs) (λ c κs. search needs) (λ c. search needs)
+    (λ c κs. search needs) (λ c. search needs) (λ c. search needs)
     returns-2
-    enum-known-f-2
-    returns-3
-    returns-4
-    returns-5
-    returns-6
-    returns-7
-    returns-8)
+    (λ c. search needs)
+    returns-3 returns-4 returns-5 returns-6 returns-7 returns-8)

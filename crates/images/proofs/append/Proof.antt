@@ -23,10 +23,9 @@ pub append-spec : {M : Type 1} → statement M
 append-spec =
     tie.close
     (tie.spec
-    (λ c. search needs) (λ c. search needs) (λ c. search needs) (λ c. search needs) (λ c κs. search needs) (λ c. search needs) (λ c κs. search needs)
-    (λ c. search needs)
+    (λ c. search needs) (λ c. search needs) (λ c. search needs) (λ c. search needs) (λ c κs. search needs)
+    (λ c. search needs) (λ c κs. search needs) (λ c. search needs)
     mul-copy-bytes
     (λ c κs. search needs)
-    mul-result
-    add-result
+    mul-result add-result
     (λ c. search needs) (λ c. search needs))

@@ -22,9 +22,7 @@ pub digest-bytes-spec : {M : Type 1} → statement M
 digest-bytes-spec =
     tie.close
     (tie.spec
-    Inv-loop
-    μ-loop
+    Inv-loop μ-loop
     (λ c. search needs) (λ c. search needs)
-    cast-fold
-    fold-requires
+    cast-fold fold-requires
     (λ c. search needs) (λ c. search needs) (λ c. search needs) (λ c. search needs))

@@ -19,8 +19,7 @@ pub digest-words-spec : {M : Type 1} → statement M
 digest-words-spec =
     tie.close
     (tie.spec
-    Inv-loop
-    μ-loop
+    Inv-loop μ-loop
     (λ c. search needs) (λ c. search needs) (λ c. search needs)
     fold-requires
     (λ c κs. search needs) (λ c. search needs) (λ c. search needs) (λ c. search needs) (λ c. search needs))

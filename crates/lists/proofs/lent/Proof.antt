@@ -18,12 +18,6 @@ none l i n d e h = let f : d ≡ digitOf (getD l i 0) = rw (first i) at e in ome
 some : (l : List ℕ) (i n d : ℕ) → d ≡ digitOf (getD l (0 + i) 0) → n - (2 - d % 3) ≡ n - (2 - digitOf (getD l i 0) % 3)
 some l i n d e = rw (e, first i)
 
-digit-at-requires : tie.Need-digit-at-requires
-digit-at-requires c κs = search needs
-
-sub-fewer : tie.Need-sub-fewer
-sub-fewer c = search needs
-
 returns : tie.Need-returns
 returns c = let a = c .before .before .before .args in (none (a .line .now) (a .i) _ _ (c .before .digit-at .ensures) (c .if1 .taken), omega arith)
 
@@ -31,4 +25,4 @@ returns-2 : tie.Need-returns-2
 returns-2 c = let a = c .before .before .before .args in (some (a .line .now) (a .i) _ _ (c .before .digit-at .ensures), omega arith)
 
 pub lent-spec : {M : Type 1} → statement M
-lent-spec = tie.close (tie.spec digit-at-requires sub-fewer returns returns-2)
+lent-spec = tie.close (tie.spec (λ c κs. search needs) (λ c. search needs) returns returns-2)

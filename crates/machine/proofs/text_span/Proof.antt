@@ -4,32 +4,14 @@ use borrow.Author.Needs.{needs}
 use Rattle.machine.proofs.text_span.Statement.{statement}
 use Rattle.machine.proofs.text_span.Tie as tie
 
-is-long-enough-requires : tie.Need-is-long-enough-requires
-is-long-enough-requires c κs = search needs
-
 returns : tie.Need-returns
 returns c = span-five _ _ _ (c .before .is-long-enough .ensures) (c .if1 .taken)
-
-valid-requires : tie.Need-valid-requires
-valid-requires c κs = search needs
-
-enum-told : tie.Need-enum-told
-enum-told c = search needs
-
-enum-told-2 : tie.Need-enum-told-2
-enum-told-2 c = search needs
-
-is-string-requires : tie.Need-is-string-requires
-is-string-requires c κs = search needs
 
 returns-2 : tie.Need-returns-2
 returns-2 c =
     let v = c .before .before .before .before in
     span-none _ _ _ (v .before .before .is-long-enough .ensures) (v .before .if1 .left) _ (v .valid .ensures) _ (c .before .before .enum-told2 .given .1) _
     (c .before .is-string .ensures _ _ _) (c .if2 .taken)
-
-word-at-requires : tie.Need-word-at-requires
-word-at-requires c κs = search needs
 
 returns-3 : tie.Need-returns-3
 returns-3 c =
@@ -46,13 +28,9 @@ pub text-span-spec : {M : Type 1} → statement M
 text-span-spec =
     tie.close
     (tie.spec
-    is-long-enough-requires
+    (λ c κs. search needs)
     returns
-    valid-requires
-    enum-told
-    enum-told-2
-    is-string-requires
+    (λ c κs. search needs) (λ c. search needs) (λ c. search needs) (λ c κs. search needs)
     returns-2
-    word-at-requires
-    returns-3
-    returns-4)
+    (λ c κs. search needs)
+    returns-3 returns-4)

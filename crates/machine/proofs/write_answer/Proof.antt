@@ -3,17 +3,17 @@ use borrow.Author.Needs.{needs}
 use Rattle.machine.proofs.write_answer.Statement.{statement}
 use Rattle.machine.proofs.write_answer.Tie as tie
 
-enum-told : tie.Need-enum-told
-enum-told c = search needs
-
-enum-known-r : tie.Need-enum-known-r
-enum-known-r c = search needs
-
 returns : tie.Need-returns
-returns c = rw (c .enum-told .given .1)
+returns c =
+    let told : tie.After-enum-told = search in
+    rw (told .enum-told .given .1) (c .new .ensures)
 
 returns-2 : tie.Need-returns-2
-returns-2 c = rw (c .before .r .given .1)
+returns-2 c =
+    let told : tie.After-r = search in
+    rw (told .r .given .1) (c .new2 .ensures)
 
 pub write-answer-spec : {M : Type 1} → statement M
-write-answer-spec = tie.close (tie.spec enum-told enum-known-r returns returns-2)
+write-answer-spec =
+    tie.close
+    (tie.spec (λ c. search needs) (λ c κs. search needs) (λ c. search needs) (λ c κs. search needs) returns returns-2)

@@ -33,14 +33,10 @@ pub stand-spec : {M : Type 1} → statement M
 stand-spec =
     tie.close
     (tie.spec
-    (λ c κs. search needs) (λ c κs. search needs) (λ c κs. search needs) (λ c κs. search needs) (λ c κs. search needs) (λ c κs. search needs)
-    (λ c κs. search needs) (λ c κs. search needs)
-    slice-aggregate-standing
-    slice-aggregate-standing-2
-    slice-aggregate-standing-3
-    slice-aggregate-standing-4
-    slice-aggregate-standing-5
-    slice-aggregate-standing-6
-    slice-aggregate-standing-7
+    (λ c κs. search needs) (λ c κs. search needs) (λ c κs. search needs) (λ c κs. search needs)
+    (λ c κs. search needs) (λ c κs. search needs) (λ c κs. search needs) (λ c κs. search needs)
+    slice-aggregate-standing slice-aggregate-standing-2 slice-aggregate-standing-3 slice-aggregate-standing-4
+    slice-aggregate-standing-5 slice-aggregate-standing-6 slice-aggregate-standing-7
     slice-aggregate-standing-8
-    (λ c κs. search needs) (λ c. search needs) (λ c κs. search needs) (λ c κs. search needs) (λ c. search needs))
+    (λ c κs. search needs) (λ c. search needs) (λ c κs. search needs) (λ c κs. search needs)
+    (λ c. search needs))

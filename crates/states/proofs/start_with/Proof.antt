@@ -39,19 +39,16 @@ pub start-with-spec : {M : Type 1} → statement M
 start-with-spec =
     tie.close
     (tie.spec
-    (λ c κs. search needs) (λ c κs. search needs) (λ c κs. search needs) (λ c κs. search needs) (λ c κs. search needs) (λ c κs. search needs)
     (λ c κs. search needs) (λ c κs. search needs) (λ c κs. search needs) (λ c κs. search needs)
-    slice-aggregate-start
-    slice-aggregate-start-2
-    slice-aggregate-start-3
-    slice-aggregate-start-4
+    (λ c κs. search needs) (λ c κs. search needs) (λ c κs. search needs) (λ c κs. search needs)
+    (λ c κs. search needs) (λ c κs. search needs)
+    slice-aggregate-start slice-aggregate-start-2 slice-aggregate-start-3 slice-aggregate-start-4
     slice-aggregate-start-5
     (λ c. search needs)
     slice-aggregate-start-6
     (λ c. search needs)
     slice-aggregate-start-7
     (λ c. search needs)
-    slice-aggregate-start-8
-    slice-aggregate-start-9
-    slice-aggregate-start-10
-    (λ c κs. search needs) (λ c κs. search needs) (λ c. search needs) (λ c. search needs) (λ c. search needs) (λ c. search needs))
+    slice-aggregate-start-8 slice-aggregate-start-9 slice-aggregate-start-10
+    (λ c κs. search needs) (λ c κs. search needs) (λ c. search needs) (λ c. search needs) (λ c. search needs)
+    (λ c. search needs))

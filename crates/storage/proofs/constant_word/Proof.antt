@@ -16,12 +16,6 @@ use Rattle.storage.proofs.constant_word.Tie as tie
 within : (l : List ℕ) (i : ℕ) → getD l i 0 ≡ 4 → i < length l
 within l i e = elim (decLe (length l) i) [ yes h ↦ absurd (omega (arith, past l i h)) | no h ↦ lt-of-not-le h ]
 
-first-constant-requires : tie.Need-first-constant-requires
-first-constant-requires c κs = search needs
-
-byte-at-requires : tie.Need-byte-at-requires
-byte-at-requires c κs = search needs
-
 add-result : tie.Need-add-result
 add-result c =
     let a = c .before .before .before .before .before .before .args in
@@ -29,9 +23,6 @@ add-result c =
 
 returns : tie.Need-returns
 returns c = rw (← c .before .before .first-constant .ensures, ← c .before .byte-at .ensures) (simp (eq-eqb _ _ (c .if1 .taken)))
-
-word-at-requires : tie.Need-word-at-requires
-word-at-requires c κs = search needs
 
 returns-2 : tie.Need-returns-2
 returns-2 c =
@@ -41,4 +32,4 @@ returns-2 c =
 pub constant-word-spec : {M : Type 1} → statement M
 constant-word-spec =
     tie.close
-    (tie.spec first-constant-requires byte-at-requires add-result returns word-at-requires returns-2)
+    (tie.spec (λ c κs. search needs) (λ c κs. search needs) add-result returns (λ c κs. search needs) returns-2)

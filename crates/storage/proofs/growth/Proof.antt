@@ -15,25 +15,7 @@ none l q i h = omega (arith, past l (1 + 4 * (q + 1) + i) (omega arith))
 returns : tie.Need-returns
 returns c = let a = c .before .before .args in none (a .table .now) (a .q) (a .i) (c .if1 .taken)
 
-field-at-requires : tie.Need-field-at-requires
-field-at-requires c κs = search needs
-
-add-field-at : tie.Need-add-field-at
-add-field-at c = search needs
-
-field-at-requires-2 : tie.Need-field-at-requires-2
-field-at-requires-2 c κs = search needs
-
-returns-2 : tie.Need-returns-2
-returns-2 c = search needs
-
-sub-result : tie.Need-sub-result
-sub-result c = search needs
-
-returns-3 : tie.Need-returns-3
-returns-3 c = search needs
-
 pub growth-spec : {M : Type 1} → statement M
 growth-spec =
     tie.close
-    (tie.spec returns field-at-requires add-field-at field-at-requires-2 returns-2 sub-result returns-3)
+    (tie.spec returns (λ c κs. search needs) (λ c. search needs) (λ c κs. search needs) (λ c. search needs) (λ c. search needs) (λ c. search needs))

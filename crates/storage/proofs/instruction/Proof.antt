@@ -3,14 +3,8 @@ use borrow.Author.Needs.{needs}
 use Rattle.storage.proofs.instruction.Statement.{statement}
 use Rattle.storage.proofs.instruction.Tie as tie
 
-first-instruction-requires : tie.Need-first-instruction-requires
-first-instruction-requires c κs = search needs
-
-word-at-requires : tie.Need-word-at-requires
-word-at-requires c κs = search needs
-
 returns : tie.Need-returns
 returns c = rw (← c .before .first-instruction .ensures) (c .word-at .ensures)
 
 pub instruction-spec : {M : Type 1} → statement M
-instruction-spec = tie.close (tie.spec first-instruction-requires word-at-requires returns)
+instruction-spec = tie.close (tie.spec (λ c κs. search needs) (λ c κs. search needs) returns)

@@ -9,12 +9,6 @@ returns : tie.Need-returns
 unfolding nextCode
 returns c = simp (le-ltb _ _ (c .if1 .taken))
 
-mul-w : tie.Need-mul-w
-mul-w c = search needs
-
-shared-slice-read-w : tie.Need-shared-slice-read-w
-shared-slice-read-w c = search needs
-
 returns-2 : tie.Need-returns-2
 unfolding nextCode
 returns-2 c = simp (lt-ltb _ _ (c .before .before .if1 .left), lt-ltb _ _ (c .if2 .taken))
@@ -24,4 +18,4 @@ unfolding nextCode
 returns-3 c = simp (lt-ltb _ _ (c .before .before .if1 .left), le-ltb _ _ (c .if2 .left))
 
 pub next-code-spec : {M : Type 1} → statement M
-next-code-spec = tie.close (tie.spec returns mul-w shared-slice-read-w returns-2 returns-3)
+next-code-spec = tie.close (tie.spec returns (λ c. search needs) (λ c. search needs) returns-2 returns-3)

@@ -13,18 +13,6 @@ returns-2 : tie.Need-returns-2
 unfolding nextConst
 returns-2 c = simp (lt-ltb _ _ (c .before .if1 .left), le-ltb _ _ (c .if2 .taken))
 
-shared-slice-read-kind : tie.Need-shared-slice-read-kind
-shared-slice-read-kind c = search needs
-
-mul-w : tie.Need-mul-w
-mul-w c = search needs
-
-shared-slice-read-w : tie.Need-shared-slice-read-w
-shared-slice-read-w c = search needs
-
-most-of-requires : tie.Need-most-of-requires
-most-of-requires c κs = search needs
-
 returns-3 : tie.Need-returns-3
 unfolding nextConst
 returns-3 c =
@@ -48,9 +36,6 @@ returns-4 c =
       ← c .before .most-of .ensures,
       lt-leb _ _ (c .if4 .left),
     )
-
-next-text-requires : tie.Need-next-text-requires
-next-text-requires c κs = search needs
 
 returns-5 : tie.Need-returns-5
 unfolding nextConst
@@ -78,14 +63,8 @@ pub next-const-spec : {M : Type 1} → statement M
 next-const-spec =
     tie.close
     (tie.spec
-    returns
-    returns-2
-    shared-slice-read-kind
-    mul-w
-    shared-slice-read-w
-    most-of-requires
-    returns-3
-    returns-4
-    next-text-requires
-    returns-5
-    returns-6)
+    returns returns-2
+    (λ c. search needs) (λ c. search needs) (λ c. search needs) (λ c κs. search needs)
+    returns-3 returns-4
+    (λ c κs. search needs)
+    returns-5 returns-6)

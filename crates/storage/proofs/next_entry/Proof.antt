@@ -5,9 +5,6 @@ use Rattle.storage.specs.Cursor.{nextEntry}
 use Rattle.storage.proofs.next_entry.Statement.{statement}
 use Rattle.storage.proofs.next_entry.Tie as tie
 
-cast-t8 : tie.Need-cast-t8
-cast-t8 c = search needs
-
 returns : tie.Need-returns
 unfolding nextEntry
 returns c = simp (eq-eqb _ _ (c .before .if1 .taken), eq-eqb _ _ (c .if2 .taken))
@@ -24,16 +21,10 @@ returns-4 : tie.Need-returns-4
 unfolding nextEntry
 returns-4 c = simp (ne-eqb _ _ (c .before .before .if1 .left), le-leb _ _ (c .before .if3 .left), lt-leb _ _ (c .if4 .taken))
 
-cast-t9 : tie.Need-cast-t9
-cast-t9 c = search needs
-
-cast-t10 : tie.Need-cast-t10
-cast-t10 c = search needs
-
 returns-5 : tie.Need-returns-5
 unfolding nextEntry
 returns-5 c = simp (ne-eqb _ _ (c .before .before .if1 .left), le-leb _ _ (c .before .if3 .left), le-leb _ _ (c .if4 .left))
 
 pub next-entry-spec : {M : Type 1} → statement M
 next-entry-spec =
-    tie.close (tie.spec cast-t8 returns returns-2 returns-3 returns-4 cast-t9 cast-t10 returns-5)
+    tie.close (tie.spec (λ c. search needs) returns returns-2 returns-3 returns-4 (λ c. search needs) (λ c. search needs) returns-5)

@@ -5,9 +5,6 @@ use Rattle.storage.specs.Cursor.{nextText}
 use Rattle.storage.proofs.next_text.Statement.{statement}
 use Rattle.storage.proofs.next_text.Tie as tie
 
-mul-base : tie.Need-mul-base
-mul-base c = search needs
-
 returns : tie.Need-returns
 unfolding nextText
 returns c = simp (lt-leb _ _ (c .if1 .taken))
@@ -15,9 +12,6 @@ returns c = simp (lt-leb _ _ (c .if1 .taken))
 returns-2 : tie.Need-returns-2
 unfolding nextText
 returns-2 c = simp (le-leb _ _ (c .before .if1 .left), lt-leb _ _ (c .if2 .taken))
-
-add-if3 : tie.Need-add-if3
-add-if3 c = search needs
 
 returns-3 : tie.Need-returns-3
 unfolding nextText
@@ -28,4 +22,4 @@ unfolding nextText
 returns-4 c = simp (le-leb _ _ (c .before .before .if1 .left), le-leb _ _ (c .before .if2 .left), le-leb _ _ (c .if3 .left))
 
 pub next-text-spec : {M : Type 1} → statement M
-next-text-spec = tie.close (tie.spec mul-base returns returns-2 add-if3 returns-3 returns-4)
+next-text-spec = tie.close (tie.spec (λ c. search needs) returns returns-2 (λ c. search needs) returns-3 returns-4)

@@ -7,41 +7,8 @@ use Rattle.storage.proofs.Sizes.{str-small}
 use Rattle.storage.proofs.past_of.Statement.{statement}
 use Rattle.storage.proofs.past_of.Tie as tie
 
-enum-told : tie.Need-enum-told
-enum-told c = search needs
-
-add-t9 : tie.Need-add-t9
-add-t9 c = search needs
-
-enum-told-2 : tie.Need-enum-told-2
-enum-told-2 c = search needs
-
-add-t10 : tie.Need-add-t10
-add-t10 c = search needs
-
-enum-known-f : tie.Need-enum-known-f
-enum-known-f c = search needs
-
-add-t11 : tie.Need-add-t11
-add-t11 c = search needs
-
 add-t12 : tie.Need-add-t12
 add-t12 c = omega (arith, str-small _ (c .before .f .given .0 .0) (c .before .before .before .pre .0) (c .before .f .given .1))
-
-enum-told-3 : tie.Need-enum-told-3
-enum-told-3 c = search needs
-
-add-t13 : tie.Need-add-t13
-add-t13 c = search needs
-
-enum-told-4 : tie.Need-enum-told-4
-enum-told-4 c = search needs
-
-add-t14 : tie.Need-add-t14
-add-t14 c = search needs
-
-enum-told-5 : tie.Need-enum-told-5
-enum-told-5 c = search needs
 
 returns : tie.Need-returns
 unfolding past
@@ -71,21 +38,8 @@ pub past-of-spec : {M : Type 1} → statement M
 past-of-spec =
     tie.close
     (tie.spec
-    enum-told
-    add-t9
-    enum-told-2
-    add-t10
-    enum-known-f
-    add-t11
+    (λ c. search needs) (λ c. search needs) (λ c. search needs) (λ c. search needs) (λ c. search needs)
+    (λ c. search needs)
     add-t12
-    enum-told-3
-    add-t13
-    enum-told-4
-    add-t14
-    enum-told-5
-    returns
-    returns-2
-    returns-3
-    returns-4
-    returns-5
-    returns-6)
+    (λ c. search needs) (λ c. search needs) (λ c. search needs) (λ c. search needs) (λ c. search needs)
+    returns returns-2 returns-3 returns-4 returns-5 returns-6)

@@ -7,23 +7,11 @@ use Rattle.storage.proofs.Sizes.{payload-small, str-small}
 use Rattle.storage.proofs.size_of.Statement.{statement}
 use Rattle.storage.proofs.size_of.Tie as tie
 
-enum-told : tie.Need-enum-told
-enum-told c = search needs
-
-enum-known-f : tie.Need-enum-known-f
-enum-known-f c = search needs
-
-payload-of-requires : tie.Need-payload-of-requires
-payload-of-requires c κs = search needs
-
 mul-result : tie.Need-mul-result
 mul-result c = omega (arith, payload-small (c .before .before .f .given .0 .0), c .payload-of .ensures)
 
 add-result : tie.Need-add-result
 add-result c = omega (arith, payload-small (c .before .before .f .given .0 .0), c .payload-of .ensures)
-
-enum-known-f-2 : tie.Need-enum-known-f-2
-enum-known-f-2 c = search needs
 
 mul-result-2 : tie.Need-mul-result-2
 mul-result-2 c =
@@ -32,15 +20,6 @@ mul-result-2 c =
 add-result-2 : tie.Need-add-result-2
 add-result-2 c =
     omega (arith, str-small _ (c .before .f2 .given .0 .0) (c .before .before .before .pre) (c .before .f2 .given .1))
-
-enum-told-2 : tie.Need-enum-told-2
-enum-told-2 c = search needs
-
-enum-told-3 : tie.Need-enum-told-3
-enum-told-3 c = search needs
-
-enum-told-4 : tie.Need-enum-told-4
-enum-told-4 c = search needs
 
 returns : tie.Need-returns
 unfolding sizeOf
@@ -70,20 +49,9 @@ pub size-of-spec : {M : Type 1} → statement M
 size-of-spec =
     tie.close
     (tie.spec
-    enum-told
-    enum-known-f
-    payload-of-requires
-    mul-result
-    add-result
-    enum-known-f-2
-    mul-result-2
-    add-result-2
-    enum-told-2
-    enum-told-3
-    enum-told-4
-    returns
-    returns-2
-    returns-3
-    returns-4
-    returns-5
-    returns-6)
+    (λ c. search needs) (λ c. search needs) (λ c κs. search needs)
+    mul-result add-result
+    (λ c. search needs)
+    mul-result-2 add-result-2
+    (λ c. search needs) (λ c. search needs) (λ c. search needs)
+    returns returns-2 returns-3 returns-4 returns-5 returns-6)

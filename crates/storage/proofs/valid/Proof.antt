@@ -50,14 +50,8 @@ next-from-requires c κs =
 step-on-requires : tie.Need-step-on-requires Inv-loop μ-loop
 step-on-requires c κs = tt
 
-enum-told : tie.Need-enum-told Inv-loop μ-loop
-enum-told c = search needs
-
 returns : tie.Need-returns Inv-loop μ-loop
 returns c = let s = c .before .before in none _ (walk-no (turn s) _ (sym (s .step-on .ensures) ∙ c .enum-told .given .1))
-
-enum-told-2 : tie.Need-enum-told-2 Inv-loop μ-loop
-enum-told-2 c = search needs
 
 done : (c : tie.After-enum-told2 Inv-loop μ-loop)
     → stepOf (c .before .before .before .before .before .loop .st) (c .before .before .before .next-from .result) ≡ Done
@@ -76,9 +70,6 @@ returns-2 c =
     let d = c .before .before in
     none _ (λ n w. omega (arith, walk-only (turn (d .before .before)) (done d) n w .0, c .before .size-of .ensures, c .if1 .taken))
 
-prototypes-requires : tie.Need-prototypes-requires Inv-loop μ-loop
-prototypes-requires c κs = search needs
-
 returns-3 : tie.Need-returns-3 Inv-loop μ-loop
 returns-3 c =
     let i = c .before .before .before in
@@ -92,9 +83,6 @@ returns-4 : tie.Need-returns-4 Inv-loop μ-loop
 returns-4 c =
     let d = c .before .before .before .before .before in
     none _ (λ n w. c .if2 .left (c .before .before .prototypes .ensures ∙ walk-only (turn (d .before .before)) (done d) n w .1))
-
-enum-known-u : tie.Need-enum-known-u Inv-loop μ-loop
-enum-known-u c = search needs
 
 on : (c : tie.After-known-told Inv-loop μ-loop)
     → stepOf (c .before .before .before .before .before .before .loop .st) (c .before .before .before .before .next-from .result)
@@ -136,24 +124,12 @@ pub valid-spec : {M : Type 1} → statement M
 valid-spec =
     tie.close
     (tie.spec
-    Inv-loop
-    μ-loop
-    loop-holds
-    next-from-requires
-    step-on-requires
-    enum-told
+    Inv-loop μ-loop loop-holds next-from-requires step-on-requires
+    (λ c. search needs)
     returns
-    enum-told-2
-    size-of-requires
-    add-n
-    returns-2
-    prototypes-requires
-    returns-3
-    returns-4
-    enum-known-u
-    past-of-requires
-    size-of-requires-2
-    add-b
-    loop-less
-    loop-again
-    returns-5)
+    (λ c. search needs)
+    size-of-requires add-n returns-2
+    (λ c κs. search needs)
+    returns-3 returns-4
+    (λ c. search needs)
+    past-of-requires size-of-requires-2 add-b loop-less loop-again returns-5)

@@ -10,10 +10,10 @@ use Rattle.storage.specs.Layout.{Storage}
 use Rattle.reader.specs.Reading.{Read, readOf, leftOf}
 use Rattle.constant.specs.declared.Value.{Value}
 use Rattle.checker.specs.declared.Checked.{Checked}
-use Rattle.fitness.specs.Fit.{State}
+use Rattle.state.specs.States.{State}
 use Rattle.starter.specs.Start.{Started, started, startOf}
-use Rattle.vm.specs.Run.{ended, runOf}
-use Rattle.vm.specs.declared.Outcome.{Outcome}
+use Rattle.step.specs.Run.{ended, runOf}
+use Rattle.step.specs.declared.Outcome.{Outcome}
 use Rattle.worked.specs.Thirteen.{text, blankStorage, blankState, stored, begins, endsOn, ranOn, register, toldOf}
 use Rattle.worked.specs.Thirteen as thirteen
 use borrow.Author.Needs.{needs}
@@ -55,9 +55,11 @@ pub run-thirteen-spec : {M : Type 1} → statement M
 run-thirteen-spec =
     tie.close
     (tie.spec
-    (λ c. search needs) (λ c. search needs) (λ c. search needs) (λ c. search needs) (λ c. search needs) (λ c. search needs)
-    (λ c κs. search needs) (λ c. search needs) (λ c. search needs) (λ c. search needs) (λ c. search needs) (λ c. search needs)
-    (λ c. search needs) (λ c. search needs) (λ c. search needs) (λ c. search needs) (λ c. search needs) (λ c κs. search needs)
-    (λ c. search needs) (λ c. search needs) (λ c. search needs) (λ c. search needs) (λ c. search needs) (λ c. search needs)
-    (λ c. search needs) (λ c. search needs) (λ c κs. search needs) (λ c. search needs) (λ c. search needs) (λ c κs. search needs)
-    (λ c. search needs) (λ c. search needs) (λ c κs. search needs) returns)
+    (λ c. search needs) (λ c. search needs) (λ c. search needs) (λ c. search needs) (λ c. search needs)
+    (λ c. search needs) (λ c κs. search needs) (λ c. search needs) (λ c. search needs) (λ c. search needs)
+    (λ c. search needs) (λ c. search needs) (λ c. search needs) (λ c. search needs) (λ c. search needs)
+    (λ c. search needs) (λ c. search needs) (λ c κs. search needs) (λ c. search needs) (λ c. search needs)
+    (λ c. search needs) (λ c. search needs) (λ c. search needs) (λ c. search needs) (λ c. search needs)
+    (λ c. search needs) (λ c κs. search needs) (λ c. search needs) (λ c. search needs) (λ c κs. search needs)
+    (λ c. search needs) (λ c. search needs) (λ c κs. search needs)
+    returns)

@@ -5,15 +5,6 @@ use Rattle.writer.proofs.FramePuts.{string-frame, word-frame}
 use Rattle.writer.proofs.put_constant.Statement.{statement}
 use Rattle.writer.proofs.put_constant.Tie as tie
 
-byte-at-requires : tie.Need-byte-at-requires
-byte-at-requires c κs = search needs
-
-word-at-requires : tie.Need-word-at-requires
-word-at-requires c κs = search needs
-
-text-at-requires : tie.Need-text-at-requires
-text-at-requires c κs = search needs
-
 put-string-requires : tie.Need-put-string-requires
 put-string-requires c κs =
     let h = c .before .before .before in
@@ -23,9 +14,6 @@ put-string-requires c κs =
     (string-frame (a .const-kinds .now) (a .const-words .now) (a .texts .now) (a .first + a .i) _ _ (h .before .byte-at .ensures) (h .word-at .ensures) _
     (c .text-at .ensures) (c .before .before .if1 .taken))
     at (s .pre)
-
-same-length : tie.Need-same-length
-same-length c = search needs
 
 returns : tie.Need-returns
 returns c =
@@ -47,9 +35,6 @@ put-const-requires c κs =
     (c .before .if1 .left))
     at (s .pre)
 
-same-length-2 : tie.Need-same-length-2
-same-length-2 c = search needs
-
 returns-2 : tie.Need-returns-2
 returns-2 c =
     let t = c .before .before .before .before in
@@ -64,12 +49,9 @@ pub put-constant-spec : {M : Type 1} → statement M
 put-constant-spec =
     tie.close
     (tie.spec
-    byte-at-requires
-    word-at-requires
-    text-at-requires
+    (λ c κs. search needs) (λ c κs. search needs) (λ c κs. search needs)
     put-string-requires
-    same-length
-    returns
-    put-const-requires
-    same-length-2
+    (λ c. search needs)
+    returns put-const-requires
+    (λ c. search needs)
     returns-2)

@@ -61,12 +61,4 @@ pub put-constants-spec : {M : Type 1} → statement M
 put-constants-spec =
     tie.close
     (tie.spec
-    Inv-loop
-    μ-loop
-    loop-holds
-    put-constant-requires
-    add-i
-    loop-less
-    loop-again
-    same-length
-    returns)
+    Inv-loop μ-loop loop-holds put-constant-requires add-i loop-less loop-again same-length returns)

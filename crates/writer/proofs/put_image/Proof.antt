@@ -24,9 +24,6 @@ abbrev lent : tie.Start Inv-loop μ-loop → Storage
 lent s =
     storage (s .args .table .now) (s .args .code .now) (s .args .const-kinds .now) (s .args .const-words .now) (s .args .texts .now)
 
-prototypes-requires : tie.Need-prototypes-requires Inv-loop μ-loop
-prototypes-requires c κs = search needs
-
 loop-holds : tie.Need-loop-holds Inv-loop μ-loop
 loop-holds c =
     let s = c .before .before .before .before .before .before .before in
@@ -78,15 +75,7 @@ pub put-image-spec : {M : Type 1} → statement M
 put-image-spec =
     tie.close
     (tie.spec
-    Inv-loop
-    μ-loop
-    prototypes-requires
-    loop-holds
-    put-prototype-requires
-    add-q
-    loop-less
-    loop-again
-    cast-put-end
-    put-end-requires
-    same-length
+    Inv-loop μ-loop
+    (λ c κs. search needs)
+    loop-holds put-prototype-requires add-q loop-less loop-again cast-put-end put-end-requires same-length
     returns)

@@ -28,9 +28,6 @@ loop-holds c =
     let s = c .before .before in
     left-start (s .args .out .now) (s .args .at) _ _ (each-start (codes-each (lent s)) (s .args .n) (s .args .first))
 
-word-at-requires : tie.Need-word-at-requires Inv-loop μ-loop
-word-at-requires c κs = search needs
-
 put-code-requires : tie.Need-put-code-requires Inv-loop μ-loop
 put-code-requires c κs =
     let o = c .before .before .before .loop in
@@ -65,13 +62,6 @@ pub put-instructions-spec : {M : Type 1} → statement M
 put-instructions-spec =
     tie.close
     (tie.spec
-    Inv-loop
-    μ-loop
-    loop-holds
-    word-at-requires
-    put-code-requires
-    add-i
-    loop-less
-    loop-again
-    same-length
-    returns)
+    Inv-loop μ-loop loop-holds
+    (λ c κs. search needs)
+    put-code-requires add-i loop-less loop-again same-length returns)

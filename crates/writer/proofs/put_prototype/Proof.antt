@@ -5,30 +5,6 @@ use Rattle.writer.proofs.FramePuts.{Entry, opens-room, consts-room, cod
 use Rattle.writer.proofs.put_prototype.Statement.{statement}
 use Rattle.writer.proofs.put_prototype.Tie as tie
 
-registers-requires : tie.Need-registers-requires
-registers-requires c κs = search needs
-
-cast-registers : tie.Need-cast-registers
-cast-registers c = search needs
-
-parameters-requires : tie.Need-parameters-requires
-parameters-requires c κs = search needs
-
-cast-parameters : tie.Need-cast-parameters
-cast-parameters c = search needs
-
-first-constant-requires : tie.Need-first-constant-requires
-first-constant-requires c κs = search needs
-
-constants-requires : tie.Need-constants-requires
-constants-requires c κs = search needs
-
-first-instruction-requires : tie.Need-first-instruction-requires
-first-instruction-requires c κs = search needs
-
-instructions-requires : tie.Need-instructions-requires
-instructions-requires c κs = search needs
-
 -- where the entry has been read
 abbrev start : tie.After-instructions → tie.Start
 start c = c .before .before .before .before .before .before .before .before .before .before .before .before
@@ -72,9 +48,6 @@ put-instructions-requires c κs =
     codes-room (lent s) (entry d) (s .args .out .now) (s .args .at) (s .pre .1) (c .before .before .before .before .before .before .before .put-open .ensures)
     (c .before .before .before .put-constants .ensures)
 
-same-length : tie.Need-same-length
-same-length c = search needs
-
 returns : tie.Need-returns
 returns c =
     let d = c .before .before .before .before .before .before .before .before .before .before .before .before in
@@ -86,16 +59,8 @@ pub put-prototype-spec : {M : Type 1} → statement M
 put-prototype-spec =
     tie.close
     (tie.spec
-    registers-requires
-    cast-registers
-    parameters-requires
-    cast-parameters
-    first-constant-requires
-    constants-requires
-    first-instruction-requires
-    instructions-requires
-    put-open-requires
-    put-constants-requires
-    put-instructions-requires
-    same-length
+    (λ c κs. search needs) (λ c. search needs) (λ c κs. search needs) (λ c. search needs)
+    (λ c κs. search needs) (λ c κs. search needs) (λ c κs. search needs) (λ c κs. search needs)
+    put-open-requires put-constants-requires put-instructions-requires
+    (λ c. search needs)
     returns)

@@ -16,22 +16,10 @@ abbrev lent : tie.Start → Storage
 lent s =
     storage (s .args .table .now) (s .args .code .now) (s .args .const-kinds .now) (s .args .const-words .now) (s .args .texts .now)
 
-is-long-enough-requires : tie.Need-is-long-enough-requires
-is-long-enough-requires c κs = search needs
-
 returns : tie.Need-returns
 returns c =
     let s = c .before .before .before .before .before .before .before .before in
     short (lent s) (s .args .out .now) _ (c .before .is-long-enough .ensures) (c .if1 .taken)
-
-valid-requires : tie.Need-valid-requires
-valid-requires c κs = search needs
-
-enum-told : tie.Need-enum-told
-enum-told c = search needs
-
-enum-known-v : tie.Need-enum-known-v
-enum-known-v c = search needs
 
 abbrev start : tie.After-valid → tie.Start
 start c = c .before .before .before .before .before .before .before .before .before
@@ -56,9 +44,6 @@ returns-3 c =
     let d = c .before .before in
     six (lent (start d)) (start d .args .out .now) (long d) _ (d .valid .ensures) (c .enum-told .given .1)
 
-same-length : tie.Need-same-length
-same-length c = search needs
-
 returns-4 : tie.Need-returns-4
 returns-4 c =
     let d = c .before .before .before .before .before .before .before .before in
@@ -69,13 +54,9 @@ pub write-spec : {M : Type 1} → statement M
 write-spec =
     tie.close
     (tie.spec
-    is-long-enough-requires
+    (λ c κs. search needs)
     returns
-    valid-requires
-    enum-told
-    enum-known-v
-    returns-2
-    put-image-requires
-    returns-3
-    same-length
+    (λ c κs. search needs) (λ c. search needs) (λ c. search needs)
+    returns-2 put-image-requires returns-3
+    (λ c. search needs)
     returns-4)

@@ -10,20 +10,8 @@ use Rattle.writer.proofs.write_line.Tie as tie
 returns : tie.Need-returns
 returns c = let a = c .before .before .before .before .args in no-room (a .head .now) (a .tail .now) (a .out .now) (omega arith)
 
-mul-room : tie.Need-mul-room
-mul-room c = search needs
-
-sub-room : tie.Need-sub-room
-sub-room c = search needs
-
 returns-2 : tie.Need-returns-2
 returns-2 c = let a = c .before .before .before .before .before .args in no-room (a .head .now) (a .tail .now) (a .out .now) (omega arith)
-
-mul-if3 : tie.Need-mul-if3
-mul-if3 c = search needs
-
-sub-if3 : tie.Need-sub-if3
-sub-if3 c = search needs
 
 returns-3 : tie.Need-returns-3
 returns-3 c = let a = c .before .before .before .before .before .before .args in no-room (a .head .now) (a .tail .now) (a .out .now) (omega arith)
@@ -44,9 +32,6 @@ put-lf-requires c κs =
     let q = c .before .before .before .put-text2 .ensures in
     omega (arith, p .next, q .next, put-length p, put-length q, hex-length (a .head .now), hex-length (a .tail .now))
 
-same-length : tie.Need-same-length
-same-length c = search needs
-
 returns-4 : tie.Need-returns-4
 returns-4 c =
     let a = c .before .before .before .before .before .before .before .before .before .before .before .before .before .before .before .before .before .before .args in
@@ -58,14 +43,9 @@ write-line-spec =
     tie.close
     (tie.spec
     returns
-    mul-room
-    sub-room
+    (λ c. search needs) (λ c. search needs)
     returns-2
-    mul-if3
-    sub-if3
-    returns-3
-    put-text-requires
-    put-text-requires-2
-    put-lf-requires
-    same-length
+    (λ c. search needs) (λ c. search needs)
+    returns-3 put-text-requires put-text-requires-2 put-lf-requires
+    (λ c. search needs)
     returns-4)

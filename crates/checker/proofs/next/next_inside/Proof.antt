@@ -4,11 +4,8 @@ use Rattle.checker.proofs.Places.{one}
 use Rattle.checker.proofs.next.next_inside.Statement.{statement}
 use Rattle.checker.proofs.next.next_inside.Tie as tie
 
-ahead-requires : tie.Need-ahead-requires
-ahead-requires c κs = search needs
-
 returns : tie.Need-returns
 returns c = rw (c .ahead .ensures) (one _ _)
 
 pub next-inside-spec : {M : Type 1} → statement M
-next-inside-spec = tie.close (tie.spec ahead-requires returns)
+next-inside-spec = tie.close (tie.spec (λ c κs. search needs) returns)

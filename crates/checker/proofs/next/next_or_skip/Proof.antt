@@ -3,17 +3,11 @@ use borrow.Author.Needs.{needs}
 use Rattle.checker.proofs.next.next_or_skip.Statement.{statement}
 use Rattle.checker.proofs.next.next_or_skip.Tie as tie
 
-ahead-requires : tie.Need-ahead-requires
-ahead-requires c κs = search needs
-
 returns : tie.Need-returns
 returns c = rw (c .before .if1 .taken) (c .ahead .ensures)
-
-ahead-requires-2 : tie.Need-ahead-requires-2
-ahead-requires-2 c κs = search needs
 
 returns-2 : tie.Need-returns-2
 returns-2 c = rw (c .before .if1 .left) (c .ahead2 .ensures)
 
 pub next-or-skip-spec : {M : Type 1} → statement M
-next-or-skip-spec = tie.close (tie.spec ahead-requires returns ahead-requires-2 returns-2)
+next-or-skip-spec = tie.close (tie.spec (λ c κs. search needs) returns (λ c κs. search needs) returns-2)

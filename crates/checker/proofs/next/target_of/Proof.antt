@@ -5,26 +5,11 @@ use Rattle.checker.proofs.Places.{forward, backward, before-all}
 use Rattle.checker.proofs.next.target_of.Statement.{statement}
 use Rattle.checker.proofs.next.target_of.Tie as tie
 
-bc-of-requires : tie.Need-bc-of-requires
-bc-of-requires c κs = search needs
-
-add-ahead : tie.Need-add-ahead
-add-ahead c = search needs
-
-ahead-requires : tie.Need-ahead-requires
-ahead-requires c κs = search needs
-
 returns : tie.Need-returns
 returns c = rw (← forward _ _ _ (c .before .before .bc-of .ensures) (c .before .if1 .taken)) (c .ahead .ensures)
 
-sub-back : tie.Need-sub-back
-sub-back c = search needs
-
 returns-2 : tie.Need-returns-2
 returns-2 c = before-all _ _ _ (c .before .before .bc-of .ensures) (c .before .if1 .left) (c .if2 .taken) _
-
-ahead-requires-2 : tie.Need-ahead-requires-2
-ahead-requires-2 c κs = search needs
 
 returns-3 : tie.Need-returns-3
 returns-3 c = rw (← backward _ _ _ (c .before .before .before .bc-of .ensures) (c .before .before .if1 .left) (c .before .if2 .left)) (c .ahead2 .ensures)
@@ -33,11 +18,9 @@ pub target-of-spec : {M : Type 1} → statement M
 target-of-spec =
     tie.close
     (tie.spec
-    bc-of-requires
-    add-ahead
-    ahead-requires
+    (λ c κs. search needs) (λ c. search needs) (λ c κs. search needs)
     returns
-    sub-back
+    (λ c. search needs)
     returns-2
-    ahead-requires-2
+    (λ c κs. search needs)
     returns-3)

@@ -2,28 +2,19 @@
 use mathlib.Core.Path.{refl}
 use borrow.Author.Needs.{needs}
 use Rattle.checker.specs.Operations.{copies, nextOf}
-use Rattle.checker.specs.Rules.{carried, tidy, registersIn, constantsIn, prototypeIn}
+use Rattle.checker.specs.Rules.{carried, tidy, registersIn, constantsIn, targetsIn, prototypeIn}
 use Rattle.checker.proofs.Shapes.{bytes, shaped}
 use Rattle.checker.proofs.rules.decode_copies.Statement.{statement}
 use Rattle.checker.proofs.rules.decode_copies.Tie as tie
 
-bytes-of-requires : tie.Need-bytes-of-requires
-bytes-of-requires c κs = search needs
-
-next-inside-requires : tie.Need-next-inside-requires
-next-inside-requires c κs = search needs
-
-judge-requires : tie.Need-judge-requires
-judge-requires c κs = search needs
-
 returns : tie.Need-returns
-unfolding carried tidy registersIn constantsIn nextOf prototypeIn
+unfolding carried tidy registersIn constantsIn targetsIn nextOf prototypeIn
 returns c =
     let s = c .before .before .before .before .before .before .before in
-    shaped copies _ _ _
+    shaped copies _
     (rw (s .next-inside .ensures, bytes _ _ (s .before .bytes-of .ensures)) at (c .judge .ensures))
     refl refl refl refl refl refl (λ h. refl)
 
 pub decode-copies-spec : {M : Type 1} → statement M
 decode-copies-spec =
-    tie.close (tie.spec bytes-of-requires next-inside-requires judge-requires returns)
+    tie.close (tie.spec (λ c κs. search needs) (λ c κs. search needs) (λ c κs. search needs) returns)

@@ -2,31 +2,19 @@
 use mathlib.Core.Path.{refl}
 use borrow.Author.Needs.{needs}
 use Rattle.checker.specs.Operations.{loadsNil, nextOf}
-use Rattle.checker.specs.Rules.{carried, tidy, registersIn, constantsIn, prototypeIn}
+use Rattle.checker.specs.Rules.{carried, tidy, registersIn, constantsIn, targetsIn, prototypeIn}
 use Rattle.checker.proofs.Shapes.{bytes, shaped}
 use Rattle.checker.proofs.rules.decode_load_nil.Statement.{statement}
 use Rattle.checker.proofs.rules.decode_load_nil.Tie as tie
 
-bytes-of-requires : tie.Need-bytes-of-requires
-bytes-of-requires c κs = search needs
-
-next-inside-requires : tie.Need-next-inside-requires
-next-inside-requires c κs = search needs
-
-add-judge : tie.Need-add-judge
-add-judge c = search needs
-
-judge-requires : tie.Need-judge-requires
-judge-requires c κs = search needs
-
 returns : tie.Need-returns
-unfolding carried tidy registersIn constantsIn nextOf prototypeIn
+unfolding carried tidy registersIn constantsIn targetsIn nextOf prototypeIn
 returns c =
     let s = c .before .before .before .before .before in
-    shaped loadsNil _ _ _
+    shaped loadsNil _
     (rw (s .next-inside .ensures, bytes _ _ (s .before .bytes-of .ensures)) at (c .judge .ensures))
     refl refl refl refl refl refl (λ h. refl)
 
 pub decode-load-nil-spec : {M : Type 1} → statement M
 decode-load-nil-spec =
-    tie.close (tie.spec bytes-of-requires next-inside-requires add-judge judge-requires returns)
+    tie.close (tie.spec (λ c κs. search needs) (λ c κs. search needs) (λ c. search needs) (λ c κs. search needs) returns)

@@ -2,32 +2,17 @@
 use mathlib.Core.Path.{refl}
 use borrow.Author.Needs.{needs}
 use Rattle.checker.specs.Operations.{loops, nextOf}
-use Rattle.checker.specs.Rules.{carried, tidy, registersIn, constantsIn, prototypeIn}
+use Rattle.checker.specs.Rules.{carried, tidy, registersIn, constantsIn, targetsIn, prototypeIn}
 use Rattle.checker.proofs.Places.{two, at-two}
 use Rattle.checker.proofs.Shapes.{bytes, shaped}
 use Rattle.checker.proofs.rules.decode_loop.Statement.{statement}
 use Rattle.checker.proofs.rules.decode_loop.Tie as tie
 
-bytes-of-requires : tie.Need-bytes-of-requires
-bytes-of-requires c κs = search needs
-
-ahead-requires : tie.Need-ahead-requires
-ahead-requires c κs = search needs
-
-target-of-requires : tie.Need-target-of-requires
-target-of-requires c κs = search needs
-
-add-judge : tie.Need-add-judge
-add-judge c = search needs
-
-judge-requires : tie.Need-judge-requires
-judge-requires c κs = search needs
-
 returns : tie.Need-returns
-unfolding carried tidy registersIn constantsIn nextOf prototypeIn
+unfolding carried tidy registersIn constantsIn targetsIn nextOf prototypeIn
 returns c =
     let s = c .before .before .before .before .before .before in
-    shaped loops _ _ _
+    shaped loops _
     (rw (s .before .ahead .ensures, s .target-of .ensures, bytes _ _ (s .before .before .bytes-of .ensures)) at (c .judge .ensures))
     refl refl refl refl (two _ _ _) refl (λ h. rw (at-two _ _ _ _ h))
 
@@ -35,9 +20,6 @@ pub decode-loop-spec : {M : Type 1} → statement M
 decode-loop-spec =
     tie.close
     (tie.spec
-    bytes-of-requires
-    ahead-requires
-    target-of-requires
-    add-judge
-    judge-requires
+    (λ c κs. search needs) (λ c κs. search needs) (λ c κs. search needs) (λ c. search needs)
+    (λ c κs. search needs)
     returns)

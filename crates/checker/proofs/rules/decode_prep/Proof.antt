@@ -2,31 +2,19 @@
 use mathlib.Core.Path.{refl}
 use borrow.Author.Needs.{needs}
 use Rattle.checker.specs.Operations.{prepares, nextOf}
-use Rattle.checker.specs.Rules.{carried, tidy, registersIn, constantsIn, prototypeIn}
+use Rattle.checker.specs.Rules.{carried, tidy, registersIn, constantsIn, targetsIn, prototypeIn}
 use Rattle.checker.proofs.Places.{one, at-one}
 use Rattle.checker.proofs.Shapes.{bytes, shaped}
 use Rattle.checker.proofs.rules.decode_prep.Statement.{statement}
 use Rattle.checker.proofs.rules.decode_prep.Tie as tie
 
-bytes-of-requires : tie.Need-bytes-of-requires
-bytes-of-requires c κs = search needs
-
-target-of-requires : tie.Need-target-of-requires
-target-of-requires c κs = search needs
-
-add-judge : tie.Need-add-judge
-add-judge c = search needs
-
-judge-requires : tie.Need-judge-requires
-judge-requires c κs = search needs
-
 returns : tie.Need-returns
-unfolding carried tidy registersIn constantsIn nextOf prototypeIn
+unfolding carried tidy registersIn constantsIn targetsIn nextOf prototypeIn
 returns c =
     let s = c .before .before .before .before in
-    shaped prepares _ _ _ (rw (s .target-of .ensures, bytes _ _ (s .before .bytes-of .ensures)) at (c .judge .ensures))
+    shaped prepares _ (rw (s .target-of .ensures, bytes _ _ (s .before .bytes-of .ensures)) at (c .judge .ensures))
     refl refl refl refl (one _ _) refl (λ h. rw (at-one _ _ _ h))
 
 pub decode-prep-spec : {M : Type 1} → statement M
 decode-prep-spec =
-    tie.close (tie.spec bytes-of-requires target-of-requires add-judge judge-requires returns)
+    tie.close (tie.spec (λ c κs. search needs) (λ c κs. search needs) (λ c. search needs) (λ c κs. search needs) returns)

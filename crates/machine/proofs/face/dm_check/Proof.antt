@@ -7,18 +7,6 @@ use Rattle.machine.proofs.face.dm_check.Tie as tie
 returns : tie.Need-returns
 returns c = check-short _ _ (c .if1 .taken)
 
-check-requires : tie.Need-check-requires
-check-requires c κs = search needs
-
-check-answer-requires : tie.Need-check-answer-requires
-check-answer-requires c κs = search needs
-
-tell-requires : tie.Need-tell-requires
-tell-requires c κs = search needs
-
-same-length : tie.Need-same-length
-same-length c = search needs
-
 returns-2 : tie.Need-returns-2
 returns-2 c =
     let r = c .before .before .before .before .before in
@@ -27,4 +15,4 @@ returns-2 c =
 pub dm-check-spec : {M : Type 1} → statement M
 dm-check-spec =
     tie.close
-    (tie.spec returns check-requires check-answer-requires tell-requires same-length returns-2)
+    (tie.spec returns (λ c κs. search needs) (λ c κs. search needs) (λ c κs. search needs) (λ c. search needs) returns-2)

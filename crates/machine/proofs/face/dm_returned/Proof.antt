@@ -7,15 +7,6 @@ use Rattle.machine.proofs.face.dm_returned.Tie as tie
 returns : tie.Need-returns
 returns c = returned-short _ _ _ (c .if1 .taken)
 
-returned-requires : tie.Need-returned-requires
-returned-requires c κs = search needs
-
-tell6-requires : tie.Need-tell6-requires
-tell6-requires c κs = search needs
-
-same-length : tie.Need-same-length
-same-length c = search needs
-
 returns-2 : tie.Need-returns-2
 returns-2 c =
     let r = c .before .before .before .before .before in
@@ -23,4 +14,4 @@ returns-2 c =
 
 pub dm-returned-spec : {M : Type 1} → statement M
 dm-returned-spec =
-    tie.close (tie.spec returns returned-requires tell6-requires same-length returns-2)
+    tie.close (tie.spec returns (λ c κs. search needs) (λ c κs. search needs) (λ c. search needs) returns-2)

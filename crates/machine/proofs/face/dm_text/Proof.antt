@@ -7,15 +7,6 @@ use Rattle.machine.proofs.face.dm_text.Tie as tie
 returns : tie.Need-returns
 returns c = text-short _ _ _ (c .if1 .taken)
 
-text-span-requires : tie.Need-text-span-requires
-text-span-requires c κs = search needs
-
-tell-span-requires : tie.Need-tell-span-requires
-tell-span-requires c κs = search needs
-
-same-length : tie.Need-same-length
-same-length c = search needs
-
 returns-2 : tie.Need-returns-2
 returns-2 c =
     let r = c .before .before .before .before in
@@ -23,4 +14,4 @@ returns-2 c =
 
 pub dm-text-spec : {M : Type 1} → statement M
 dm-text-spec =
-    tie.close (tie.spec returns text-span-requires tell-span-requires same-length returns-2)
+    tie.close (tie.spec returns (λ c κs. search needs) (λ c κs. search needs) (λ c. search needs) returns-2)

@@ -7,24 +7,6 @@ use Rattle.machine.proofs.face.dm_write.Tie as tie
 returns : tie.Need-returns
 returns c = write-short _ _ _ (c .if1 .taken)
 
-write-requires : tie.Need-write-requires
-write-requires c κs = search needs
-
-write-answer-requires : tie.Need-write-answer-requires
-write-answer-requires c κs = search needs
-
-bytes-of-requires : tie.Need-bytes-of-requires
-bytes-of-requires c κs = search needs
-
-tell5-requires : tie.Need-tell5-requires
-tell5-requires c κs = search needs
-
-same-length : tie.Need-same-length
-same-length c = search needs
-
-same-length-2 : tie.Need-same-length-2
-same-length-2 c = search needs
-
 returns-2 : tie.Need-returns-2
 returns-2 c =
     let r = c .before .before .before .before .before .before .before .before in
@@ -35,10 +17,6 @@ dm-write-spec =
     tie.close
     (tie.spec
     returns
-    write-requires
-    write-answer-requires
-    bytes-of-requires
-    tell5-requires
-    same-length
-    same-length-2
+    (λ c κs. search needs) (λ c κs. search needs) (λ c κs. search needs) (λ c κs. search needs)
+    (λ c. search needs) (λ c. search needs)
     returns-2)

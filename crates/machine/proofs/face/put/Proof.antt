@@ -4,20 +4,8 @@ use borrow.Author.Needs.{needs}
 use Rattle.machine.proofs.face.put.Statement.{statement}
 use Rattle.machine.proofs.face.put.Tie as tie
 
-mul-answer : tie.Need-mul-answer
-mul-answer c = search needs
-
-slice-write-answer : tie.Need-slice-write-answer
-slice-write-answer c = search needs
-
-same-length : tie.Need-same-length
-same-length c = search needs
-
-returns : tie.Need-returns
-returns c = search needs
-
 returns-2 : tie.Need-returns-2
 returns-2 c = let a = c .before .args in past-set (a .answer .now) (a .at) (a .x) (c .if1 .left)
 
 pub put-spec : {M : Type 1} → statement M
-put-spec = tie.close (tie.spec mul-answer slice-write-answer same-length returns returns-2)
+put-spec = tie.close (tie.spec (λ c. search needs) (λ c. search needs) (λ c. search needs) (λ c. search needs) returns-2)

@@ -19,9 +19,6 @@ abbrev μ-loop : tie.MeasureT-loop
 μ-loop s n table₀ code₀ const-kinds₀ const-words₀ texts₀ at₀ t₀ table code const-kinds const-words texts at t =
     length s - at
 
-put-word-requires : tie.Need-put-word-requires Inv-loop μ-loop
-put-word-requires c κs = search needs
-
 loop-holds : tie.Need-loop-holds Inv-loop μ-loop
 loop-holds c = (omega arith, left-start _ _ _ _ _ _)
 
@@ -108,26 +105,8 @@ pub fill-all-spec : {M : Type 1} → statement M
 fill-all-spec =
     tie.close
     (tie.spec
-    Inv-loop
-    μ-loop
-    put-word-requires
-    loop-holds
-    frame-at-requires
-    same-length
-    same-length-2
-    same-length-3
-    same-length-4
-    same-length-5
-    returns
-    sub-put-frame
-    part-put-frame-start
-    part-put-frame-end
-    put-frame-requires
-    loop-less
-    loop-again
-    same-length-6
-    same-length-7
-    same-length-8
-    same-length-9
-    same-length-10
-    returns-2)
+    Inv-loop μ-loop
+    (λ c κs. search needs)
+    loop-holds frame-at-requires same-length same-length-2 same-length-3 same-length-4 same-length-5 returns
+    sub-put-frame part-put-frame-start part-put-frame-end put-frame-requires loop-less loop-again
+    same-length-6 same-length-7 same-length-8 same-length-9 same-length-10 returns-2)

@@ -8,18 +8,9 @@ use Rattle.reader.proofs.HexLaws.{digit-none}
 use Rattle.reader.proofs.hex.digit.Statement.{statement}
 use Rattle.reader.proofs.hex.digit.Tie as tie
 
-wrapping-sub-u8-requires : tie.Need-wrapping-sub-u8-requires
-wrapping-sub-u8-requires c κs = search needs
-
 returns : tie.Need-returns
 unfolding digitOf
 returns c = let b = c .before .before .args .b in simp (le-leb 48 b (omega arith), le-leb b 57 (omega arith)) (omega arith)
-
-wrapping-sub-u8-requires-2 : tie.Need-wrapping-sub-u8-requires-2
-wrapping-sub-u8-requires-2 c κs = search needs
-
-add-result : tie.Need-add-result
-add-result c = search needs
 
 returns-2 : tie.Need-returns-2
 unfolding digitOf
@@ -34,9 +25,7 @@ pub digit-spec : {M : Type 1} → statement M
 digit-spec =
     tie.close
     (tie.spec
-    wrapping-sub-u8-requires
+    (λ c κs. search needs)
     returns
-    wrapping-sub-u8-requires-2
-    add-result
-    returns-2
-    returns-3)
+    (λ c κs. search needs) (λ c. search needs)
+    returns-2 returns-3)

@@ -18,23 +18,11 @@ abbrev μ-loop : tie.MeasureT-loop
 loop-holds : tie.Need-loop-holds Inv-loop μ-loop
 loop-holds c = (omega arith, tested-start _)
 
-shared-slice-read-digit : tie.Need-shared-slice-read-digit Inv-loop μ-loop
-shared-slice-read-digit c = search needs
-
-digit-requires : tie.Need-digit-requires Inv-loop μ-loop
-digit-requires c κs = search needs
-
 cast-bad : tie.Need-cast-bad Inv-loop μ-loop
 cast-bad c = omega (arith, c .digit .ok)
 
 add-bad : tie.Need-add-bad Inv-loop μ-loop
 add-bad c = omega (arith, c .digit .ensures, digit-le (getD (c .before .before .before .before .before .args .s .now) (c .before .before .before .loop .i) 0))
-
-add-i : tie.Need-add-i Inv-loop μ-loop
-add-i c = search needs
-
-loop-less : tie.Need-loop-less Inv-loop μ-loop
-loop-less c = search needs
 
 loop-again : tie.Need-loop-again Inv-loop μ-loop
 loop-again c = (omega arith, rw (c .digit .ensures) (tested-more _ _ _ (c .before .before .before .loop .inv .1) (c .before .before .loop-test .taken)))
@@ -49,15 +37,8 @@ pub is-paired-spec : {M : Type 1} → statement M
 is-paired-spec =
     tie.close
     (tie.spec
-    Inv-loop
-    μ-loop
-    loop-holds
-    shared-slice-read-digit
-    digit-requires
-    cast-bad
-    add-bad
-    add-i
-    loop-less
-    loop-again
-    returns
-    returns-2)
+    Inv-loop μ-loop loop-holds
+    (λ c. search needs) (λ c κs. search needs)
+    cast-bad add-bad
+    (λ c. search needs) (λ c. search needs)
+    loop-again returns returns-2)

@@ -20,12 +20,6 @@ abbrev μ-loop : tie.MeasureT-loop
 loop-holds : tie.Need-loop-holds Inv-loop μ-loop
 loop-holds c = let a = c .before .args in (omega arith, omega arith, word-start (bytesOf (a .s .now)) (a .k) (a .n))
 
-add-byte-at : tie.Need-add-byte-at Inv-loop μ-loop
-add-byte-at c = search needs
-
-byte-at-requires : tie.Need-byte-at-requires Inv-loop μ-loop
-byte-at-requires c κs = search needs
-
 mul-w : tie.Need-mul-w Inv-loop μ-loop
 mul-w c = let o = c .before .before .loop in omega (arith, word-room (o .w) 0 (o .i) (o .inv .1) (omega arith) (omega arith))
 
@@ -36,12 +30,6 @@ add-w : tie.Need-add-w Inv-loop μ-loop
 add-w c =
     let o = c .before .before .loop in
     omega (arith, word-room (o .w) (c .byte-at .result) (o .i) (o .inv .1) (omega (arith, c .byte-at .ok)) (omega arith))
-
-add-i : tie.Need-add-i Inv-loop μ-loop
-add-i c = search needs
-
-loop-less : tie.Need-loop-less Inv-loop μ-loop
-loop-less c = search needs
 
 loop-again : tie.Need-loop-again Inv-loop μ-loop
 loop-again c =
@@ -64,15 +52,8 @@ pub word-at-spec : {M : Type 1} → statement M
 word-at-spec =
     tie.close
     (tie.spec
-    Inv-loop
-    μ-loop
-    loop-holds
-    add-byte-at
-    byte-at-requires
-    mul-w
-    cast-w
-    add-w
-    add-i
-    loop-less
-    loop-again
-    returns)
+    Inv-loop μ-loop loop-holds
+    (λ c. search needs) (λ c κs. search needs)
+    mul-w cast-w add-w
+    (λ c. search needs) (λ c. search needs)
+    loop-again returns)

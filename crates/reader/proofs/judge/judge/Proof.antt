@@ -20,18 +20,6 @@ returns c = sym (judge-long _ (c .if1 .taken))
 loop-holds : tie.Need-loop-holds Inv-loop μ-loop
 loop-holds c = going-start _ (c .if1 .left)
 
-frame-at-requires : tie.Need-frame-at-requires Inv-loop μ-loop
-frame-at-requires c κs = search needs
-
-step-on-requires : tie.Need-step-on-requires Inv-loop μ-loop
-step-on-requires c κs = search needs
-
-enum-known-t : tie.Need-enum-known-t Inv-loop μ-loop
-enum-known-t c = search needs
-
-enum-told : tie.Need-enum-told Inv-loop μ-loop
-enum-told c = search needs
-
 returns-2 : tie.Need-returns-2 Inv-loop μ-loop
 returns-2 c =
     sym (going-all _ _ _ _ (c .before .before .before .before .before .before .loop .inv) _ (c .before .before .before .before .frame-at .ensures) (sym (c .before .before .before .step-on .ensures) ∙ c .before .enum-told .given .1) (c .if2 .taken))
@@ -42,9 +30,6 @@ add-t15 c = omega arith
 returns-3 : tie.Need-returns-3 Inv-loop μ-loop
 returns-3 c =
     sym (going-more _ _ _ _ (c .before .before .before .before .before .before .loop .inv) _ (c .before .before .before .before .frame-at .ensures) (sym (c .before .before .before .step-on .ensures) ∙ c .before .enum-told .given .1) (c .if2 .left))
-
-enum-known-t-2 : tie.Need-enum-known-t-2 Inv-loop μ-loop
-enum-known-t-2 c = search needs
 
 returns-4 : tie.Need-returns-4 Inv-loop μ-loop
 returns-4 c = sym (going-no _ _ _ _ (c .before .before .before .before .before .before .loop .inv) _ (c .before .before .before .before .frame-at .ensures) _ (sym (c .before .before .before .step-on .ensures) ∙ c .before .t2 .given .1))
@@ -65,20 +50,8 @@ pub judge-spec : {M : Type 1} → statement M
 judge-spec =
     tie.close
     (tie.spec
-    Inv-loop
-    μ-loop
-    returns
-    loop-holds
-    frame-at-requires
-    step-on-requires
-    enum-known-t
-    enum-told
-    returns-2
-    add-t15
-    returns-3
-    enum-known-t-2
-    returns-4
-    add-line
-    loop-less
-    loop-again
-    returns-5)
+    Inv-loop μ-loop returns loop-holds
+    (λ c κs. search needs) (λ c κs. search needs) (λ c. search needs) (λ c. search needs)
+    returns-2 add-t15 returns-3
+    (λ c. search needs)
+    returns-4 add-line loop-less loop-again returns-5)

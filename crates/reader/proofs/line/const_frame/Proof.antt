@@ -18,21 +18,12 @@ returns c =
     let h = bytes-length _ (c .before .before .pre) in
     simp (lt-leb 2 n (omega arith))
 
-byte-at-requires : tie.Need-byte-at-requires
-byte-at-requires c κs = search needs
-
-word-frame-requires : tie.Need-word-frame-requires
-word-frame-requires c κs = search needs
-
 returns-2 : tie.Need-returns-2
 unfolding shape constBytes
 returns-2 c =
     let n = length (bytesOf (c .before .before .before .before .before .args .s .now)) in
     let h = bytes-length _ (c .before .before .before .before .before .pre) in
     rw (← c .before .before .byte-at .ensures) (simp (le-leb 2 n (omega arith), lt-ltb _ _ (c .before .if2 .taken)) (c .word-frame .ensures))
-
-sub-t9 : tie.Need-sub-t9
-sub-t9 c = search needs
 
 returns-3 : tie.Need-returns-3
 unfolding shape constBytes
@@ -60,10 +51,7 @@ const-frame-spec =
     tie.close
     (tie.spec
     returns
-    byte-at-requires
-    word-frame-requires
+    (λ c κs. search needs) (λ c κs. search needs)
     returns-2
-    sub-t9
-    returns-3
-    returns-4
-    returns-5)
+    (λ c. search needs)
+    returns-3 returns-4 returns-5)

@@ -6,9 +6,6 @@ use Rattle.reader.proofs.HexLaws.{half, half-not}
 use Rattle.reader.proofs.line.end_frame.Statement.{statement}
 use Rattle.reader.proofs.line.end_frame.Tie as tie
 
-byte-at-requires : tie.Need-byte-at-requires
-byte-at-requires c κs = search needs
-
 returns : tie.Need-returns
 unfolding shape endBytes
 returns c = rw (← c .byte-at .ensures) (simp (eq-eqb _ _ (half _ 2 (c .before .before .before .pre) (c .before .if1 .taken))))
@@ -18,4 +15,4 @@ unfolding shape endBytes
 returns-2 c = simp (ne-eqb _ _ (half-not _ 2 (c .before .before .pre) (c .if1 .left)))
 
 pub end-frame-spec : {M : Type 1} → statement M
-end-frame-spec = tie.close (tie.spec byte-at-requires returns returns-2)
+end-frame-spec = tie.close (tie.spec (λ c κs. search needs) returns returns-2)

@@ -16,20 +16,8 @@ Inv-loop s at i₀ i = (at ≤ i) × (i ≤ length s) × (at + lineLen (drop at 
 abbrev μ-loop : tie.MeasureT-loop
 μ-loop s at i₀ i = length s - i
 
-loop-holds : tie.Need-loop-holds Inv-loop μ-loop
-loop-holds c = search needs
-
-shared-slice-read-if1 : tie.Need-shared-slice-read-if1 Inv-loop μ-loop
-shared-slice-read-if1 c = search needs
-
 returns : tie.Need-returns Inv-loop μ-loop
 returns c = omega (arith, lf-here (c .before .before .before .before .args .s .now) (c .before .before .before .loop .i) (c .before .before .loop-test .taken) (c .if1 .taken))
-
-add-i : tie.Need-add-i Inv-loop μ-loop
-add-i c = search needs
-
-loop-less : tie.Need-loop-less Inv-loop μ-loop
-loop-less c = search needs
 
 loop-again : tie.Need-loop-again Inv-loop μ-loop
 loop-again c =
@@ -43,12 +31,8 @@ pub find-lf-spec : {M : Type 1} → statement M
 find-lf-spec =
     tie.close
     (tie.spec
-    Inv-loop
-    μ-loop
-    loop-holds
-    shared-slice-read-if1
+    Inv-loop μ-loop
+    (λ c. search needs) (λ c. search needs)
     returns
-    add-i
-    loop-less
-    loop-again
-    returns-2)
+    (λ c. search needs) (λ c. search needs)
+    loop-again returns-2)

@@ -14,9 +14,6 @@ returns : tie.Need-returns
 unfolding shape frameOf
 returns c = simp (lt-leb _ _ (c .if1 .taken))
 
-is-paired-requires : tie.Need-is-paired-requires
-is-paired-requires c κs = search needs
-
 returns-2 : tie.Need-returns-2
 unfolding shape frameOf
 returns-2 c = simp (le-leb _ _ (c .before .before .if1 .left), sym (c .before .is-paired .ensures) ∙ not-true _ (c .if2 .taken))
@@ -34,4 +31,4 @@ returns-3 c =
 
 pub frame-of-spec : {M : Type 1} → statement M
 frame-of-spec =
-    tie.close (tie.spec returns is-paired-requires returns-2 kind-frame-requires returns-3)
+    tie.close (tie.spec returns (λ c κs. search needs) returns-2 kind-frame-requires returns-3)

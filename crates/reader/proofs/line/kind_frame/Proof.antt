@@ -6,20 +6,11 @@ use Rattle.image.specs.Frames.{shape, kindBytes}
 use Rattle.reader.proofs.line.kind_frame.Statement.{statement}
 use Rattle.reader.proofs.line.kind_frame.Tie as tie
 
-byte-at-requires : tie.Need-byte-at-requires
-byte-at-requires c κs = search needs
-
-open-frame-requires : tie.Need-open-frame-requires
-open-frame-requires c κs = search needs
-
 returns : tie.Need-returns
 unfolding kindBytes
 returns c =
     let e = c .before .before .byte-at .ensures in
     simp (eq-eqb _ _ (sym e ∙ c .before .if1 .taken)) (c .open-frame .ensures)
-
-const-frame-requires : tie.Need-const-frame-requires
-const-frame-requires c κs = search needs
 
 returns-2 : tie.Need-returns-2
 unfolding kindBytes
@@ -27,17 +18,11 @@ returns-2 c =
     let e = c .before .before .before .byte-at .ensures in
     simp (ne-eqb _ _ (λ d. c .before .before .if1 .left (e ∙ d)), eq-eqb _ _ (sym e ∙ c .before .if2 .taken)) (c .const-frame .ensures)
 
-code-frame-requires : tie.Need-code-frame-requires
-code-frame-requires c κs = search needs
-
 returns-3 : tie.Need-returns-3
 unfolding kindBytes
 returns-3 c =
     let e = c .before .before .before .before .byte-at .ensures in
     simp (ne-eqb _ _ (λ d. c .before .before .before .if1 .left (e ∙ d)), ne-eqb _ _ (λ d. c .before .before .if2 .left (e ∙ d)), eq-eqb _ _ (sym e ∙ c .before .if3 .taken)) (c .code-frame .ensures)
-
-end-frame-requires : tie.Need-end-frame-requires
-end-frame-requires c κs = search needs
 
 returns-4 : tie.Need-returns-4
 unfolding kindBytes
@@ -58,13 +43,11 @@ pub kind-frame-spec : {M : Type 1} → statement M
 kind-frame-spec =
     tie.close
     (tie.spec
-    byte-at-requires
-    open-frame-requires
+    (λ c κs. search needs) (λ c κs. search needs)
     returns
-    const-frame-requires
+    (λ c κs. search needs)
     returns-2
-    code-frame-requires
+    (λ c κs. search needs)
     returns-3
-    end-frame-requires
-    returns-4
-    returns-5)
+    (λ c κs. search needs)
+    returns-4 returns-5)

@@ -10,9 +10,6 @@ use Rattle.reader.proofs.LineLaws.{frames-cut, first-cut, frames-uncut,
 use Rattle.reader.proofs.line.next_frame.Statement.{statement}
 use Rattle.reader.proofs.line.next_frame.Tie as tie
 
-find-lf-requires : tie.Need-find-lf-requires
-find-lf-requires c κs = search needs
-
 returns : tie.Need-returns
 unfolding shape
 returns c =
@@ -21,21 +18,6 @@ returns c =
     let h : length l ≤ at + lineLen (drop at l) = omega (arith, c .before .find-lf .ensures) in
     let f = first-uncut l at h (c .before .before .before .pre) in
     record { here = sym (ap shape f); list = rw f (frames-uncut l at h (c .before .before .before .pre)); text = c .before .find-lf .ensures; more = c .before .before .before .pre; within = omega arith }
-
-sub-frame-of : tie.Need-sub-frame-of
-sub-frame-of c = search needs
-
-part-frame-of-start : tie.Need-part-frame-of-start
-part-frame-of-start c = search needs
-
-part-frame-of-end : tie.Need-part-frame-of-end
-part-frame-of-end c = search needs
-
-frame-of-requires : tie.Need-frame-of-requires
-frame-of-requires c κs = search needs
-
-add-t5 : tie.Need-add-t5
-add-t5 c = search needs
 
 returns-2 : tie.Need-returns-2
 returns-2 c =
@@ -51,11 +33,7 @@ pub next-frame-spec : {M : Type 1} → statement M
 next-frame-spec =
     tie.close
     (tie.spec
-    find-lf-requires
+    (λ c κs. search needs)
     returns
-    sub-frame-of
-    part-frame-of-start
-    part-frame-of-end
-    frame-of-requires
-    add-t5
+    (λ c. search needs) (λ c. search needs) (λ c. search needs) (λ c κs. search needs) (λ c. search needs)
     returns-2)

@@ -6,12 +6,6 @@ use Rattle.reader.proofs.HexLaws.{half, half-not}
 use Rattle.reader.proofs.line.open_frame.Statement.{statement}
 use Rattle.reader.proofs.line.open_frame.Tie as tie
 
-byte-at-requires : tie.Need-byte-at-requires
-byte-at-requires c κs = search needs
-
-byte-at-requires-2 : tie.Need-byte-at-requires-2
-byte-at-requires-2 c κs = search needs
-
 returns : tie.Need-returns
 unfolding shape openBytes
 returns c =
@@ -36,4 +30,4 @@ returns-4 c = simp (ne-eqb _ _ (half-not _ 3 (c .before .before .pre) (c .if1 .l
 
 pub open-frame-spec : {M : Type 1} → statement M
 open-frame-spec =
-    tie.close (tie.spec byte-at-requires byte-at-requires-2 returns returns-2 returns-3 returns-4)
+    tie.close (tie.spec (λ c κs. search needs) (λ c κs. search needs) returns returns-2 returns-3 returns-4)

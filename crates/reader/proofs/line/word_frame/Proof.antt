@@ -18,9 +18,6 @@ use Rattle.reader.proofs.line.word_frame.Tie as tie
 whole : (w n : ℕ) (l : List ℕ) → w ≡ wordFrom 0 (take n l) → length l ≡ n → w ≡ wordFrom 0 l
 whole w n l e h = e ∙ ap (wordFrom 0) (take-all n l (omega arith))
 
-payload-of-requires : tie.Need-payload-of-requires
-payload-of-requires c κs = search needs
-
 mul-if1 : tie.Need-mul-if1
 mul-if1 c = omega (arith, c .payload-of .ensures, payload-small (c .before .before .args .tag))
 
@@ -29,9 +26,6 @@ add-if1 c = omega (arith, c .payload-of .ensures, payload-small (c .before .befo
 
 word-at-requires : tie.Need-word-at-requires
 word-at-requires c κs = (c .before .before .before .pre .0, (omega arith, omega (arith, c .before .payload-of .ensures, payload-small (c .before .before .before .args .tag))))
-
-most-of-requires : tie.Need-most-of-requires
-most-of-requires c κs = search needs
 
 returns : tie.Need-returns
 unfolding shape wordBytesOf
@@ -69,11 +63,7 @@ pub word-frame-spec : {M : Type 1} → statement M
 word-frame-spec =
     tie.close
     (tie.spec
-    payload-of-requires
-    mul-if1
-    add-if1
-    word-at-requires
-    most-of-requires
-    returns
-    returns-2
-    returns-3)
+    (λ c κs. search needs)
+    mul-if1 add-if1 word-at-requires
+    (λ c κs. search needs)
+    returns returns-2 returns-3)

@@ -5,15 +5,6 @@ use borrow.Author.Tests.{ne-eqb}
 use Rattle.types.proofs.Opt254.try_new.Statement.{statement}
 use Rattle.types.proofs.Opt254.try_new.Tie as tie
 
-enum-known-v : tie.Need-enum-known-v
-enum-known-v c = search needs
-
-returns : tie.Need-returns
-returns c = search needs
-
-enum-told : tie.Need-enum-told
-enum-told c = search needs
-
 returns-2 : tie.Need-returns-2
 returns-2 c = rw (c .before .before .v .given .1) (simp (ne-eqb _ _ (c .if1 .left)))
 
@@ -21,4 +12,4 @@ returns-3 : tie.Need-returns-3
 returns-3 c = rw (c .enum-told .given .1) refl
 
 pub try-new-spec : {M : Type 1} → statement M
-try-new-spec = tie.close (tie.spec enum-known-v returns enum-told returns-2 returns-3)
+try-new-spec = tie.close (tie.spec (λ c. search needs) (λ c. search needs) (λ c. search needs) returns-2 returns-3)

@@ -4,24 +4,6 @@ use Rattle.writer.proofs.HexPuts.{one-byte}
 use Rattle.writer.proofs.hex.put_hex.Statement.{statement}
 use Rattle.writer.proofs.hex.put_hex.Tie as tie
 
-digit-of-requires : tie.Need-digit-of-requires
-digit-of-requires c κs = search needs
-
-digit-of-requires-2 : tie.Need-digit-of-requires-2
-digit-of-requires-2 c κs = search needs
-
-put-byte-requires : tie.Need-put-byte-requires
-put-byte-requires c κs = search needs
-
-put-byte-requires-2 : tie.Need-put-byte-requires-2
-put-byte-requires-2 c κs = search needs
-
-add-result : tie.Need-add-result
-add-result c = search needs
-
-same-length : tie.Need-same-length
-same-length c = search needs
-
 returns : tie.Need-returns
 returns c =
     let h = c .before .before .before .before .before .before in
@@ -34,10 +16,6 @@ pub put-hex-spec : {M : Type 1} → statement M
 put-hex-spec =
     tie.close
     (tie.spec
-    digit-of-requires
-    digit-of-requires-2
-    put-byte-requires
-    put-byte-requires-2
-    add-result
-    same-length
+    (λ c κs. search needs) (λ c κs. search needs) (λ c κs. search needs) (λ c κs. search needs)
+    (λ c. search needs) (λ c. search needs)
     returns)

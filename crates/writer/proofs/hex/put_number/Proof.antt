@@ -72,17 +72,5 @@ pub put-number-spec : {M : Type 1} → statement M
 put-number-spec =
     tie.close
     (tie.spec
-    Inv-loop
-    μ-loop
-    loop-holds
-    sub-k
-    mul-put-hex
-    add-put-hex
-    cast-put-hex
-    put-hex-requires
-    loop-less
-    loop-again
-    mul-result
-    add-result
-    same-length
-    returns)
+    Inv-loop μ-loop loop-holds sub-k mul-put-hex add-put-hex cast-put-hex put-hex-requires loop-less
+    loop-again mul-result add-result same-length returns)

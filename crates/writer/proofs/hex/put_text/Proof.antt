@@ -52,13 +52,5 @@ pub put-text-spec : {M : Type 1} → statement M
 put-text-spec =
     tie.close
     (tie.spec
-    Inv-loop
-    μ-loop
-    loop-holds
-    shared-slice-read-put-hex
-    put-hex-requires
-    add-i
-    loop-less
-    loop-again
-    same-length
-    returns)
+    Inv-loop μ-loop loop-holds shared-slice-read-put-hex put-hex-requires add-i loop-less loop-again
+    same-length returns)

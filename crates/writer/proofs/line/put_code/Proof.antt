@@ -11,36 +11,21 @@ put-hex-requires : tie.Need-put-hex-requires
 unfolding hexOf frameBytes written
 put-hex-requires c κs = omega arith
 
-operation-of-requires : tie.Need-operation-of-requires
-operation-of-requires c κs = search needs
-
 put-hex-requires-2 : tie.Need-put-hex-requires-2
 unfolding hexOf frameBytes written
 put-hex-requires-2 c κs = omega arith
-
-flags-of-requires : tie.Need-flags-of-requires
-flags-of-requires c κs = search needs
 
 put-hex-requires-3 : tie.Need-put-hex-requires-3
 unfolding hexOf frameBytes written
 put-hex-requires-3 c κs = omega arith
 
-a-of-requires : tie.Need-a-of-requires
-a-of-requires c κs = search needs
-
 put-hex-requires-4 : tie.Need-put-hex-requires-4
 unfolding hexOf frameBytes written
 put-hex-requires-4 c κs = omega arith
 
-b-of-requires : tie.Need-b-of-requires
-b-of-requires c κs = search needs
-
 put-hex-requires-5 : tie.Need-put-hex-requires-5
 unfolding hexOf frameBytes written
 put-hex-requires-5 c κs = omega arith
-
-c-of-requires : tie.Need-c-of-requires
-c-of-requires c κs = search needs
 
 put-hex-requires-6 : tie.Need-put-hex-requires-6
 unfolding hexOf frameBytes written
@@ -49,9 +34,6 @@ put-hex-requires-6 c κs = omega arith
 put-lf-requires : tie.Need-put-lf-requires
 unfolding hexOf frameBytes written
 put-lf-requires c κs = omega arith
-
-same-length : tie.Need-same-length
-same-length c = search needs
 
 returns : tie.Need-returns
 unfolding hexOf frameBytes written
@@ -74,16 +56,15 @@ put-code-spec =
     tie.close
     (tie.spec
     put-hex-requires
-    operation-of-requires
+    (λ c κs. search needs)
     put-hex-requires-2
-    flags-of-requires
+    (λ c κs. search needs)
     put-hex-requires-3
-    a-of-requires
+    (λ c κs. search needs)
     put-hex-requires-4
-    b-of-requires
+    (λ c κs. search needs)
     put-hex-requires-5
-    c-of-requires
-    put-hex-requires-6
-    put-lf-requires
-    same-length
+    (λ c κs. search needs)
+    put-hex-requires-6 put-lf-requires
+    (λ c. search needs)
     returns)

@@ -17,9 +17,6 @@ put-hex-requires-2 : tie.Need-put-hex-requires-2
 unfolding hexOf frameBytes written
 put-hex-requires-2 c κs = omega arith
 
-payload-of-requires : tie.Need-payload-of-requires
-payload-of-requires c κs = search needs
-
 put-number-requires : tie.Need-put-number-requires
 unfolding hexOf frameBytes written
 put-number-requires c κs =
@@ -34,9 +31,6 @@ put-lf-requires c κs =
     let n = rw (y .before .payload-of .ensures) at (y .put-number .ensures .next) in
     omega (arith, n, length-append (hexOf (wordBytes (payload (a .tag)) (a .w) [])) (10 ∷ []))
 
-same-length : tie.Need-same-length
-same-length c = search needs
-
 returns : tie.Need-returns
 unfolding hexOf frameBytes written
 returns c =
@@ -50,10 +44,8 @@ pub put-const-spec : {M : Type 1} → statement M
 put-const-spec =
     tie.close
     (tie.spec
-    put-hex-requires
-    put-hex-requires-2
-    payload-of-requires
-    put-number-requires
-    put-lf-requires
-    same-length
+    put-hex-requires put-hex-requires-2
+    (λ c κs. search needs)
+    put-number-requires put-lf-requires
+    (λ c. search needs)
     returns)

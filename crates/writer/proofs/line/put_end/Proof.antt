@@ -18,9 +18,6 @@ put-lf-requires : tie.Need-put-lf-requires
 unfolding hexOf frameBytes written
 put-lf-requires c κs = omega arith
 
-same-length : tie.Need-same-length
-same-length c = search needs
-
 returns : tie.Need-returns
 unfolding hexOf frameBytes written
 returns c =
@@ -29,4 +26,4 @@ returns c =
     put-then (y .before .before .before .before .put-hex .ensures) (put-then (y .put-hex2 .ensures) (z .put-lf .ensures))
 
 pub put-end-spec : {M : Type 1} → statement M
-put-end-spec = tie.close (tie.spec put-hex-requires put-hex-requires-2 put-lf-requires same-length returns)
+put-end-spec = tie.close (tie.spec put-hex-requires put-hex-requires-2 put-lf-requires (λ c. search needs) returns)

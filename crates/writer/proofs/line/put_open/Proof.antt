@@ -22,9 +22,6 @@ put-lf-requires : tie.Need-put-lf-requires
 unfolding hexOf frameBytes written
 put-lf-requires c κs = omega arith
 
-same-length : tie.Need-same-length
-same-length c = search needs
-
 returns : tie.Need-returns
 unfolding hexOf frameBytes written
 returns c =
@@ -37,9 +34,6 @@ pub put-open-spec : {M : Type 1} → statement M
 put-open-spec =
     tie.close
     (tie.spec
-    put-hex-requires
-    put-hex-requires-2
-    put-hex-requires-3
-    put-lf-requires
-    same-length
+    put-hex-requires put-hex-requires-2 put-hex-requires-3 put-lf-requires
+    (λ c. search needs)
     returns)

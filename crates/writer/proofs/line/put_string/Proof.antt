@@ -28,9 +28,6 @@ put-lf-requires c κs =
     let a = c .before .before .before .before .before .before .before .before .before .before .before .before .before .before .before .args in
     omega (arith, length-append (hexOf (a .s .now)) (10 ∷ []))
 
-same-length : tie.Need-same-length
-same-length c = search needs
-
 returns : tie.Need-returns
 unfolding hexOf frameBytes written
 returns c =
@@ -42,4 +39,4 @@ returns c =
 
 pub put-string-spec : {M : Type 1} → statement M
 put-string-spec =
-    tie.close (tie.spec put-hex-requires put-hex-requires-2 put-text-requires put-lf-requires same-length returns)
+    tie.close (tie.spec put-hex-requires put-hex-requires-2 put-text-requires put-lf-requires (λ c. search needs) returns)

@@ -1,0 +1,3 @@
+-- Laws of choices and tests.
+pub mod Choices
+pub mod Below

@@ -1,0 +1,2 @@
+-- A test at every number below another.
+pub mod Below

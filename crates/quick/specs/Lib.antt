@@ -1,0 +1,3 @@
+-- What the quick loop counts on and leaves, and what a run comes to.
+pub mod Quick
+pub mod Drive
