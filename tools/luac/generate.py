@@ -1,12 +1,13 @@
 #!/usr/bin/env python3
-"""Makes the programs of crates/runs, and what real Lua 5.3 answers to each.
+"""Makes the programs of crates/runs, and what real Lua 5.3 answers to each; behind them stand the images of tools/whole with the Rust's answers.
 
     python3 tools/luac/generate.py               writes crates/runs/stdin and crates/runs/stdout
     python3 tools/luac/generate.py --check       writes nothing, and fails where one of the two is stale
     python3 tools/luac/generate.py --sources D   writes the Lua sources to folder D, one file each, and nothing else
 
-Each program is compiled by luac5.3 and translated by luac_image.py; the real lua5.3 runs its source. The machine of tools/oracle must give the same
-for each, or the script stops. It uses no clock and no random numbers but its own, and gives the same bytes each time."""
+Each program is compiled by luac5.3 and translated by luac_image.py; the real lua5.3 runs its source. The Rust's answers are taken from
+tools/whole/answers.txt as they stand there. The machine of tools/oracle must give the same for each, or the script stops. It uses no clock and no
+random numbers but its own, and gives the same bytes each time."""
 import math
 import os
 import re
@@ -24,6 +25,9 @@ from oracle.values import double
 from programs import CASES
 
 BUDGET = 1000000
+# What crates/runs/src/main.rt reads of its standard input.
+MOST_BYTES = 524288
+RUST = os.path.join(HERE, '..', 'whole', 'answers.txt')
 
 # The number of document 01's table for an error of a Lua operation.
 NUMBERS = {
@@ -118,6 +122,21 @@ def compiled_and_run():
     return programs, lua
 
 
+def by_lua():
+    """Name and image of each program, what Lua's answer is in document 01's numbers, and where it comes from."""
+    for case, program, said in zip(CASES, *compiled_and_run()):
+        yield case.name, program.image, expected(program, case, said), '%s  Lua:    %s' % (case.source, said)
+
+
+def by_rust():
+    """The same of the images that the Rust has answered: after each its answer, in a line that begins with `= `."""
+    with open(RUST) as file:
+        for part in file.read().split('# ')[1:]:
+            name, _, rest = part.partition('\n')
+            image, _, answer = rest.partition('= ')
+            yield name, image, answer.rstrip('\n'), '  tools/whole/answers.txt'
+
+
 def main():
     names = [case.name for case in CASES]
     assert len(set(names)) == len(names)
@@ -126,19 +145,21 @@ def main():
         return
     check = checking(__doc__)
     images, answers, finished, wrong = [], [], 0, 0
-    for case, program, said in zip(CASES, *compiled_and_run()):
-        wants = expected(program, case, said)
-        has = foretold(program.image)
+    for name, image, wants, source in [*by_lua(), *by_rust()]:
+        has = foretold(image)
         if has != wants:
             wrong += 1
-            print('%s\n%s  Lua:    %s\n  wants:  %s\n  oracle: %s\n' % (case.name, case.source, said, wants, has))
-        images.append('# %s\n%s' % (case.name, program.image))
-        answers.append('# %s\n%s\n' % (case.name, wants))
+            print('%s\n%s\n  wants:  %s\n  oracle: %s\n' % (name, source, wants, has))
+        images.append('# %s\n%s' % (name, image))
+        answers.append('# %s\n%s\n' % (name, wants))
         finished += wants.startswith('0')
     if wrong:
-        raise SystemExit('%d of %d differ from the oracle' % (wrong, len(CASES)))
-    answers.append('%d programs: %d returned, %d raised an error\n' % (len(CASES), finished, len(CASES) - finished))
-    keep('runs', ''.join(images), ''.join(answers), check)
+        raise SystemExit('%d of %d differ from the oracle' % (wrong, len(images)))
+    stdin = ''.join(images)
+    if len(stdin) > MOST_BYTES:
+        raise SystemExit('%d bytes; crates/runs reads %d' % (len(stdin), MOST_BYTES))
+    answers.append('%d programs: %d returned, %d raised an error\n' % (len(images), finished, len(images) - finished))
+    keep('runs', stdin, ''.join(answers), check)
     print(answers[-1], end='')
 
 

@@ -6,6 +6,8 @@ doesn't hold. An error's line has just one instruction that could raise it."""
 import math
 from fractions import Fraction
 
+from oracle.dice import Dice
+
 
 class Case:
     """paper: number and line of a Call that document 01 refuses and Lua doesn't."""
@@ -20,21 +22,6 @@ CASES = []
 def case(name, lines, paper=None):
     source = lines if isinstance(lines, str) else '\n'.join(lines)
     CASES.append(Case(name, source.strip('\n') + '\n', paper))
-
-
-class Dice:
-    def __init__(self, seed):
-        self.state = seed
-
-    def below(self, n):
-        self.state = (self.state * 6364136223846793005 + 1442695040888963407) % 2**64
-        return (self.state >> 33) % n
-
-    def pick(self, things):
-        return things[self.below(len(things))]
-
-    def chance(self, one_in):
-        return self.below(one_in) == 0
 
 
 # ---- literals

@@ -13,16 +13,12 @@ from collections import namedtuple
 from fractions import Fraction
 
 import reference
+from causes import RULES, SIGN, shown, shown_vector
 from reference import INTEGER, NUMBER, STRING, signed
 
 Section = namedtuple("Section", "numbers source name values results")
 Difference = namedtuple("Difference", "rule name operands wanted checked released")
 ARITY = {"negate": 1, "bitwise_not": 1, "past_end": 3}
-SIGN = {
-    "negate": "-", "bitwise_not": "~", "add": "+", "subtract": "-", "multiply": "*", "float_divide": "/",
-    "floor_divide": "//", "modulo": "%", "bitwise_and": "&", "bitwise_or": "|", "bitwise_xor": "~", "shift_left": "<<",
-    "shift_right": ">>", "is_equal": "==", "less_than": "<", "less_equal": "<=", "NumericForLoop": ",",
-}
 
 
 # The lists.
@@ -95,72 +91,7 @@ def loops(path):
         yield operands, got, reference.numeric_for_loop(*operands)
 
 
-# Where the Rust differs, by document 01's section "Where the Rust misleads".
-
-def kinds(operands):
-    return [v[0] for v in operands]
-
-
-def truncates(name, operands):
-    if name != "floor_divide" or kinds(operands) != [INTEGER, INTEGER]:
-        return False
-    a, b = (signed(v[1]) for v in operands)
-    return (a < 0) != (b < 0) and a % b != 0
-
-
-def has_no_quotient(name, operands):
-    return name == "modulo" and operands == [(INTEGER, 2**63), (INTEGER, 2**64 - 1)]
-
-
-def overflows(name, operands):
-    if name != "modulo" or kinds(operands) != [INTEGER, INTEGER]:
-        return False
-    a, b = (signed(v[1]) for v in operands)
-    rest = abs(a) % abs(b) * (-1 if a < 0 else 1)
-    return not -2**63 <= rest + b < 2**63
-
-
-def takes_two_to_63(name, operands):
-    return name.startswith(("bitwise", "shift")) and (NUMBER, 0x43E0000000000000) in operands
-
-
-def rounds_first(name, operands):
-    return name in ("is_equal", "less_than", "less_equal") and sorted(kinds(operands)) == [INTEGER, NUMBER]
-
-
-def shifts_far(name, operands):
-    if not name.startswith("shift"):
-        return False
-    count = reference.to_integer(operands[1])
-    return count is not None and not 0 <= count < 64
-
-
-def turns_to_numbers(name, operands):
-    return name == "NumericForLoop" and kinds(operands) == [INTEGER, NUMBER, INTEGER]
-
-
-def rounds_limit(name, operands):
-    return name == "NumericForLoop" and operands[1][0] == INTEGER and NUMBER in kinds(operands)
-
-
-def index_overflows(name, operands):
-    if name != "NumericForLoop" or NUMBER in kinds(operands):
-        return False
-    return not -2**63 <= signed(operands[0][1]) + signed(operands[2][1]) < 2**63
-
-
-RULES = [
-    (truncates, "`floor_divide` uses `wrapping_div`: it rounds toward zero"),
-    (has_no_quotient, "`modulo` panics at W4"),
-    (overflows, "`modulo` overflows at W5, in (a % b) + b"),
-    (takes_two_to_63, "`to_integer` accepts 2^63"),
-    (rounds_first, "mixed comparison rounds first (W8)"),
-    (shifts_far, "a shift isn't defined below 0 or past 63"),
-    (turns_to_numbers, "an integer loop with a limit that is a number turns to floats"),
-    (rounds_limit, "a loop of numbers rounds an integer limit first"),
-    (index_overflows, "an integer loop's index + step overflows"),
-]
-
+# Where the Rust differs.
 
 def rule_of(name, operands):
     for holds, text in RULES:
@@ -183,30 +114,11 @@ def differences_of(name, checked, released):
 
 # What is written.
 
-def shown(value):
-    kind, word = value
-    if kind == INTEGER:
-        return str(signed(word))
-    if kind == NUMBER:
-        if reference.is_nan(word):
-            return "nan"
-        if reference.is_infinite(word):
-            return "-inf" if reference.negative(word) else "inf"
-        q = reference.exact(word)
-        return "%s%d.0" % ("-" if reference.negative(word) else "", abs(q)) if q.denominator == 1 else repr(float(q))
-    return "nil" if kind == 0 else "true" if word else "false"
-
-
 def shown_result(result):
     if result[0] in "in" and len(result) >= 17:
         value = shown((INTEGER if result[0] == "i" else NUMBER, int(result[1:17], 16)))
         return value + {"": "", "t": ", past", "f": ", on"}[result[17:]]
     return {"t": "true", "f": "false", "e": "error", "p": "panic"}.get(result, result)
-
-
-def shown_vector(name, operands):
-    texts, sign = [shown(v) for v in operands], SIGN[name].replace("|", "\\|")
-    return sign + texts[0] if len(texts) == 1 else (", " if sign == "," else " %s " % sign).join(texts)
 
 
 def weight(operands):
@@ -263,7 +175,7 @@ def table(differences, facts):
         "| input | Rust | release |",
         "|---|---|---|",
     ]
-    lines += ["| `%s` | %s | %s |" % (text, shown_result(a), shown_result(b)) for text, a, b in facts]
+    lines += ["| `%s` | %s | %s |" % (text.replace("|", "\\|"), shown_result(a), shown_result(b)) for text, a, b in facts]
     return "\n".join(lines) + "\n"
 
 

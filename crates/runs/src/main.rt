@@ -1,7 +1,8 @@
-// Replays programs of real Lua: compiled by luac5.3, translated to images, and held against what lua5.3 returned or raised.
+// Replays programs of real Lua: compiled by luac5.3, translated to images, and held against what lua5.3 returned or raised;
+// and random images, held against what the Rust returned or raised.
 // Each image on standard input is read, started without arguments and run on a budget of 1,000,000. For each it writes
 // the answer's number, then after 0 every returned value as in document 01's b0 lines, after an error its prototype and
-// instruction; at the end the totals. tools/luac/generate.py makes the list and, by lua5.3, what must be written.
+// instruction; at the end the totals. tools/luac/generate.py makes the list and what must be written.
 //
 // A line of the list is one of
 //   # words                a program's name, written as it is

@@ -1,13 +1,15 @@
 //! What the Rust original answers to the vectors. `constant.rs`, `raw_ops.rs`, `types.rs`, `compiler/lexer.rs` and
-//! `thread/vm.rs` are the original's files, unchanged: make.sh puts them beside the others, which stand in for files of
-//! it that are not here. Those only hand values on.
+//! `thread/vm.rs` are the original's files, unchanged: build.sh puts them beside the others, which stand in for files of
+//! it that are not here. Those only hand values on, but for what Call and Return do (thread/thread.rs).
 //!
 //! `oracle lists FOLDER` writes every operator on every pair of FOLDER/values.txt and FOLDER/strings.txt, in the format
 //! of lua_vectors.lua; `p` is a panic. `oracle loops FOLDER` writes NumericForLoop on every index, limit and step that
 //! values.txt marks: the new index, and whether it is past the end. `oracle facts` writes what single inputs give.
+//! `oracle images` and `oracle steps` run whole images and single steps from standard input: images.rs says how.
 #![allow(dead_code)]
 
 mod constant;
+mod images;
 mod meta_ops;
 mod opcode;
 mod raw_ops;
@@ -165,10 +167,19 @@ fn lists(folder: &str) {
 }
 
 /// NumericForLoop at instruction 0 with offset 1: the new index, and whether the loop is past its end.
-fn loop_once(index: Value, limit: Value, step: Value) -> Text {
+fn loop_once<'gc>(index: Value<'gc>, limit: Value<'gc>, step: Value<'gc>) -> Text {
     let mut registers = [index, limit, step, Value::Nil];
     match run_one(Operation::NumericForLoop { base: RegisterIndex(0), jump: 1 }, 0, &mut registers) {
         Ok(next) => shown_value(Some(registers[0])) + if next == 1 { "t" } else { "f" },
+        Err(_) => "e".into(),
+    }
+}
+
+/// NumericForPrep at instruction 0: the index that it leaves.
+fn prepared<'gc>(index: Value<'gc>, limit: Value<'gc>, step: Value<'gc>) -> Text {
+    let mut registers = [index, limit, step];
+    match run_one(Operation::NumericForPrep { base: RegisterIndex(0), jump: 0 }, 0, &mut registers) {
+        Ok(_) => shown_value(Some(registers[0])),
         Err(_) => "e".into(),
     }
 }
@@ -200,11 +211,33 @@ fn facts() {
     fact("1 % 9223372036854775807", &|| shown_value(raw_ops::modulo(integer(1), integer(i64::MAX))));
     fact("1 << 64", &|| shown_value(raw_ops::shift_left(integer(1), integer(64))));
     fact("1 >> 64", &|| shown_value(raw_ops::shift_right(integer(1), integer(64))));
-    fact("\"10\" + 1", &|| shown_value(raw_ops::add(text("10"), integer(1))));
-    fact("\"3\" & 1", &|| shown_value(raw_ops::bitwise_and(text("3"), integer(1))));
-    fact("\"0\" & 1", &|| shown_value(raw_ops::bitwise_and(text("0"), integer(1))));
-    fact("\"\" & 1", &|| shown_value(raw_ops::bitwise_and(text(""), integer(1))));
-    fact("-\"2\"", &|| shown_value(raw_ops::negate(text("2"))));
+    for (name, op, right) in [
+        ("\"0\" + 0", raw_ops::add as Binary, 0),
+        ("\"0\" - 0", raw_ops::subtract, 0),
+        ("\"0\" * 0", raw_ops::multiply, 0),
+        ("\"0\" / 0", raw_ops::float_divide, 0),
+        ("\"0\" // 1", raw_ops::floor_divide, 1),
+        ("\"0\" % 1", raw_ops::modulo, 1),
+    ] {
+        fact(name, &|| shown_value(op(text("0"), integer(right))));
+    }
+    for (sign, op) in [
+        ("&", raw_ops::bitwise_and as Binary),
+        ("|", raw_ops::bitwise_or),
+        ("~", raw_ops::bitwise_xor),
+        ("<<", raw_ops::shift_left),
+        (">>", raw_ops::shift_right),
+    ] {
+        for digits in ["1", "0", ""] {
+            fact(&format!("\"{}\" {} 0", digits, sign), &|| shown_value(op(text(digits), integer(0))));
+        }
+    }
+    for digits in ["3", "1", "0", ""] {
+        fact(&format!("~\"{}\"", digits), &|| shown_value(raw_ops::bitwise_not(text(digits))));
+    }
+    fact("-\"0\"", &|| shown_value(raw_ops::negate(text("0"))));
+    fact("\"0\" < 0", &|| shown_bool(raw_ops::less_than(text("0"), integer(0))));
+    fact("\"0\" <= 0", &|| shown_bool(raw_ops::less_equal(text("0"), integer(0))));
     fact("\"1\" < 2", &|| shown_bool(raw_ops::less_than(text("1"), integer(2))));
     fact("1 <= \"2\"", &|| shown_bool(raw_ops::less_equal(integer(1), text("2"))));
     fact("\"1\" == 1", &|| shown_bool(is_equal(text("1"), integer(1))));
@@ -214,8 +247,12 @@ fn facts() {
         Some(Value::Number(x)) => format!("{:016x}", x.to_bits()),
         _ => absent(),
     });
-    fact("NumericForLoop on 1, 2.5, 1", &|| loop_once(integer(1), Value::Number(2.5), integer(1)));
-    fact("NumericForLoop on \"1\", 3, 1", &|| loop_once(text("1"), integer(3), integer(1)));
+    fact("NumericForLoop on \"0\", 0, 0", &|| loop_once(text("0"), integer(0), integer(0)));
+    fact("NumericForLoop on 0, \"0\", 0", &|| loop_once(integer(0), text("0"), integer(0)));
+    fact("NumericForLoop on 0, 0, \"0\"", &|| loop_once(integer(0), integer(0), text("0")));
+    fact("NumericForPrep on \"0\", 0, 0", &|| prepared(text("0"), integer(0), integer(0)));
+    fact("NumericForPrep on \"1\", 3, 1", &|| prepared(text("1"), integer(3), integer(1)));
+    fact("NumericForPrep on 0, 0, \"0\"", &|| prepared(integer(0), integer(0), text("0")));
 
     let (dest, nil) = (RegisterIndex(0), RCIndex::Register(RegisterIndex(0)));
     fact("nil + nil raises", &|| raised(Operation::Add { dest, left: nil, right: nil }));
@@ -244,6 +281,8 @@ fn main() {
         "lists" => lists(&args[2]),
         "loops" => loops(&args[2]),
         "facts" => facts(),
+        "images" => images::answer(true),
+        "steps" => images::answer(false),
         _ => absent(),
     }
 }

@@ -107,6 +107,8 @@ pub struct Context<'gc>(PhantomData<&'gc ()>);
 
 pub enum RuntimeError {
     Operator(BinaryOperatorError),
+    /// A Call of a value that is no function.
+    NoFunction,
     VM,
 }
 

@@ -1,0 +1,128 @@
+"""Where the Rust differs from document 01, by operator and operands: RULES, each with the cause in words.
+
+Most are those of document 01's section "Where the Rust misleads"; docs/DIFFERENCES.md has them all. A rule holds just
+where its cause is at work, so that a difference without a rule is one that nobody knows of. Operators have the names of
+reference.py, and its values: (kind, word), or (4, bytes).
+"""
+import re
+
+import reference
+from reference import INTEGER, NUMBER, STRING, signed
+
+SIGN = {
+    "negate": "-", "bitwise_not": "~", "add": "+", "subtract": "-", "multiply": "*", "float_divide": "/",
+    "floor_divide": "//", "modulo": "%", "bitwise_and": "&", "bitwise_or": "|", "bitwise_xor": "~", "shift_left": "<<",
+    "shift_right": ">>", "is_equal": "==", "less_than": "<", "less_equal": "<=", "NumericForLoop": ",",
+    "NumericForPrep": ",",
+}
+
+
+# In words.
+
+def shown(value):
+    kind, word = value
+    if kind == STRING:
+        return '"%s"' % "".join(chr(b) if 32 <= b < 127 and chr(b) not in '"\\|' else "\\%03d" % b for b in word)
+    if kind == INTEGER:
+        return str(signed(word))
+    if kind == NUMBER:
+        if reference.is_nan(word):
+            return "nan"
+        if reference.is_infinite(word):
+            return "-inf" if reference.negative(word) else "inf"
+        q = reference.exact(word)
+        return "%s%d.0" % ("-" if reference.negative(word) else "", abs(q)) if q.denominator == 1 else repr(float(q))
+    return "nil" if kind == 0 else "true" if word else "false"
+
+
+def shown_vector(name, operands):
+    texts, sign = [shown(v) for v in operands], SIGN[name].replace("|", "\\|")
+    return sign + texts[0] if len(texts) == 1 else (", " if sign == "," else " %s " % sign).join(texts)
+
+
+# The rules.
+
+def kinds(operands):
+    return [v[0] for v in operands]
+
+
+def truncates(name, operands):
+    if name != "floor_divide" or kinds(operands) != [INTEGER, INTEGER]:
+        return False
+    a, b = (signed(v[1]) for v in operands)
+    return (a < 0) != (b < 0) and a % b != 0
+
+
+def has_no_quotient(name, operands):
+    return name == "modulo" and operands == [(INTEGER, 2**63), (INTEGER, 2**64 - 1)]
+
+
+def overflows(name, operands):
+    if name != "modulo" or kinds(operands) != [INTEGER, INTEGER]:
+        return False
+    a, b = (signed(v[1]) for v in operands)
+    rest = abs(a) % abs(b) * (-1 if a < 0 else 1)
+    return not -2**63 <= rest + b < 2**63
+
+
+def takes_two_to_63(name, operands):
+    return name.startswith(("bitwise", "shift")) and (NUMBER, 0x43E0000000000000) in operands
+
+
+def is_rounded(value):
+    """Whether it is an integer that no number has."""
+    return value[0] == INTEGER and reference.exact(reference.to_number(value)) != signed(value[1])
+
+
+def rounds_first(name, operands):
+    if name not in ("is_equal", "less_than", "less_equal") or sorted(kinds(operands)) != [INTEGER, NUMBER]:
+        return False
+    return any(is_rounded(v) for v in operands)
+
+
+def shifts_far(name, operands):
+    if not name.startswith("shift"):
+        return False
+    count = reference.to_integer(operands[1])
+    return count is not None and not 0 <= count < 64
+
+
+def turns_to_numbers(name, operands):
+    return name == "NumericForLoop" and kinds(operands) == [INTEGER, NUMBER, INTEGER]
+
+
+def rounds_limit(name, operands):
+    return name == "NumericForLoop" and NUMBER in kinds(operands) and is_rounded(operands[1])
+
+
+def index_overflows(name, operands):
+    if name != "NumericForLoop" or kinds(operands) != [INTEGER, INTEGER, INTEGER]:
+        return False
+    return not -2**63 <= signed(operands[0][1]) + signed(operands[2][1]) < 2**63
+
+
+def reads_past_end(name, operands):
+    if not name.startswith(("bitwise", "shift")):
+        return False
+    return any(kind == STRING and re.fullmatch(b"[-+]?0?", word) for kind, word in operands)
+
+
+def converts(name, operands):
+    """Strings are compared with strings as they are; everything else that takes numbers takes strings for them."""
+    compared = name == "is_equal" or name in ("less_than", "less_equal") and kinds(operands) == [STRING, STRING]
+    return STRING in kinds(operands) and not compared
+
+
+RULES = [
+    (truncates, "`floor_divide` uses `wrapping_div`: it rounds toward zero"),
+    (has_no_quotient, "`modulo` panics at W4"),
+    (overflows, "`modulo` overflows at W5, in (a % b) + b"),
+    (takes_two_to_63, "`to_integer` accepts 2^63"),
+    (rounds_first, "mixed comparison rounds first (W8)"),
+    (shifts_far, "a shift isn't defined below 0 or past 63"),
+    (turns_to_numbers, "an integer loop with a limit that is a number turns to floats"),
+    (rounds_limit, "a loop of numbers rounds an integer limit first"),
+    (index_overflows, "an integer loop's index + step overflows"),
+    (reads_past_end, "`read_hex_integer` reads past the end of \"\" and of \"0\""),
+    (converts, "a string is converted to a number"),
+]
