@@ -21,6 +21,10 @@
  * answer[6] and all beyond stay as they are. Where `answer` is shorter than DM_ANSWER the number is 5, of dm_run and
  * dm_returned 60, and nothing at all is touched. Where 5 or 6 is answered, everything lent but `answer` is untouched.
  *
+ * What a host leaves alone. The thread that calls dm_run has the floating-point environment that a C program starts with:
+ * rounding to nearest, no flush-to-zero, no denormals-are-zero. Under another one every call still ends and keeps to what is
+ * said here of memory, but numbers may come out otherwise.
+ *
  * Contents don't matter for safety: whatever bytes the slices hold, each call ends with one of the numbers. What each
  * function answers and leaves, for any input, is proved; crates/machine/specs/Face.antt has the definitions. */
 #ifndef DELETION_MACHINE_H
@@ -161,9 +165,14 @@ uint32_t dm_start(const uint64_t *table, size_t table_length, const uint64_t *co
                   const uint8_t *arg_kinds, size_t arg_kinds_length, const uint64_t *arg_words, size_t arg_words_length,
                   uint32_t *answer, size_t answer_length);
 
-/* Carries out at most `budget` instructions. 70: call it again to go on; a, then b, is the same as a + b. 0: finished,
- * dm_returned tells where the values are. A Lua error's number (DM_IS_LUA_ERROR). 60: the state is not
- * fit to run (then it is untouched), or the next instruction breaks a rule. A finished or failed machine gives its answer again. */
+/* Carries out at most `budget` instructions. 70: call it again to go on. 0: finished, dm_returned tells where the values are. A
+ * Lua error's number (DM_IS_LUA_ERROR). 60: the state is not fit to run (then it is untouched), or the next instruction
+ * breaks a rule. A finished or failed machine gives its answer again.
+ *
+ * Of an image that dm_check accepts, runs of a, then b, are one run of a + b. Of another image too, but for two cases, which
+ * leave the same state and answer otherwise: after a Call into a prototype without instructions the second run finds the state
+ * unfit, 60 at 0, 0, where one run answers 60 at the callee's instruction 0; and after a fault a run on no budget answers 70,
+ * where one run answers 60. */
 uint32_t dm_run(const uint64_t *table, size_t table_length, const uint64_t *code, size_t code_length,
                 const uint8_t *const_kinds, size_t const_kinds_length, const uint64_t *const_words, size_t const_words_length,
                 const uint8_t *texts, size_t texts_length,

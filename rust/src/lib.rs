@@ -22,6 +22,9 @@
 //! what it was and a place that says where, and a run ends by its budget. Each error is one of these numbers;
 //! `number()` tells it, and its text says what the number says.
 //!
+//! The proofs speak of numbers that are rounded to nearest. So a host leaves the floating-point environment of the thread that
+//! runs a machine as Rust has it: no other rounding mode, no flush-to-zero (`tests/environment.rs` shows what these would do).
+//!
 //! The library keeps nothing between calls, so any number of machines may run at once, on any threads, and several
 //! may share an image:
 //!

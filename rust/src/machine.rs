@@ -68,8 +68,8 @@ impl<'image> Machine<'image> {
     /// Carries out instructions until the machine is finished, fails, or has carried out `budget` of them. A finished or
     /// failed machine answers the same again, with count 0.
     ///
-    /// Parts don't matter: a run of `a`, then one of `b`, leave the state and give the outcome and the place of one
-    /// run of `a + b`, and their counts add up to its count.
+    /// Parts don't matter: of a machine that was started (its image was accepted), a run of `a`, then one of `b`, leave the
+    /// state and give the outcome and the place of one run of `a + b`, and their counts add up to its count.
     pub fn run(&mut self, budget: u32) -> Answer {
         Answer::told(&ffi::run(self.image.storage(), &mut self.state, budget))
     }

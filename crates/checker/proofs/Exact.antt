@@ -12,7 +12,8 @@ use lib.Dec.{eqb}
 use Rattle.choices.proofs.Choices.{by-bool}
 use Rattle.storage.specs.Layout.{Storage, longEnough}
 use Rattle.storage.specs.Fields.{prototypesOf, instructionsOf}
-use Rattle.storage.specs.Stored.{readsBack}
+use Rattle.storage.specs.Stored.{imageIn, readsBack}
+use Rattle.storage.proofs.Six.{readable, readable-back}
 use Rattle.checker.specs.Check.{siteOf, brokenAt, codeFrom, protosFrom, searchOf, checkOf}
 use Rattle.checker.specs.Kept.{KeptAt, Sound, Demanded, BadAt, none, empty, breaks, FirstBad}
 use Rattle.checker.specs.declared.Checked.{Checked}
@@ -135,25 +136,25 @@ data AnyBad (S : Storage) : Type 0 where
 module _ (S : Storage) where
   accepts : Demanded S → checkOf S ≡ Accepted
   unfolding checkOf
-  accepts d = rw (d .long, d .reads) (search-passes (S .table) (S .code) (d .some) (d .each))
+  accepts d = rw (d .long, readable-back (d .reads)) (search-passes (S .table) (S .code) (d .some) (d .each))
 
   refuses : (n q i : ℕ) → FirstBad S n q i → checkOf S ≡ Refused n q i
   unfolding checkOf
-  refuses n q i f = rw (f .long, f .reads) (search-refuses (S .table) (S .code) (f .before) (f .here))
+  refuses n q i f = rw (f .long, readable-back (f .reads)) (search-refuses (S .table) (S .code) (f .before) (f .here))
 
   module _ (l : longEnough S ≡ true) (r : readsBack S ≡ true) where
     all-or-any : Demanded S ⊎ AnyBad S
     all-or-any =
         by-bool (eqb (prototypesOf (S .table)) 0)
-        (λ t. inr (any-bad 15 0 0 (record { long = l; reads = r; before = λ j h. absurd (omega arith); here = none (eqb-true _ _ t) })))
+        (λ t. inr (any-bad 15 0 0 (record { long = l; image = imageIn S; reads = readable S r; before = λ j h. absurd (omega arith); here = none (eqb-true _ _ t) })))
         (λ t. from (eqb-false _ _ t)
         (first (Sound (S .table) (S .code)) (BadIn (S .table) (S .code)) (sound-or-bad (S .table) (S .code)) (prototypesOf (S .table))))
       where
         from :
             (prototypesOf (S .table) ≡ 0 → ⊥)
             → Found (Sound (S .table) (S .code)) (BadIn (S .table) (S .code)) (prototypesOf (S .table)) → Demanded S ⊎ AnyBad S
-        from z (all f) = inl (record { long = l; reads = r; some = z; each = f })
-        from z (one q h f (bad-in n i b)) = inr (any-bad n q i (record { long = l; reads = r; before = f; here = b h }))
+        from z (all f) = inl (record { long = l; image = imageIn S; reads = readable S r; some = z; each = f })
+        from z (one q h f (bad-in n i b)) = inr (any-bad n q i (record { long = l; image = imageIn S; reads = readable S r; before = f; here = b h }))
 
   -- an answer that is neither 5 nor 6
   judged : (v : Checked) → checkOf S ≡ v → (v ≡ Refused 5 0 0 → ⊥) → (v ≡ Refused 6 0 0 → ⊥) → Demanded S ⊎ AnyBad S

@@ -3,4 +3,5 @@ pub mod Places
 pub mod Shapes
 pub mod Lowest
 pub mod Turns
+pub mod Past
 pub mod Exact

@@ -8,7 +8,7 @@ use borrow.Author.Tests.{eqb-true, ne-eqb}
 use lib.Dec.{eqb}
 use Rattle.choices.proofs.Choices.{by-bool}
 use Rattle.checker.specs.Operations.{Shape, copies, loadsConstant, loadsBool, loadsNil, calls, returns, jumps, tests, testsAndSets, closes, prepares, loops, compares, combines, unknown, shapeAt}
-use Rattle.checker.specs.Rules.{carried, tidy, registersIn, constantsIn, targetsIn, prototypeIn, lowest, brokenAs, brokenOf}
+use Rattle.checker.specs.Rules.{carried, tidy, registersIn, constantsIn, targetsIn, prototypeInImage, lowest, brokenAs, brokenOf}
 use Rattle.checker.specs.Decode.{operandsOf, decodeOf}
 use Rattle.checker.specs.Kept.{Kept}
 use Rattle.checker.specs.declared.Site.{Site}
@@ -33,7 +33,7 @@ module _ (s : Site) where
   unfolding brokenOf brokenAs
   kept z =
       let x = shapeAt (s .word) in
-      let k = all-kept (carried x s) (tidy x s) (registersIn x s) (constantsIn x s) (targetsIn x s) (prototypeIn x s) z in
+      let k = all-kept (carried x s) (tidy x s) (registersIn x s) (constantsIn x s) (targetsIn x s) (prototypeInImage x s) z in
       record { carried = k .0; tidy = k .1; registers = k .2; constants = k .3; targets = k .4; prototype = k .5 }
 
   pub unbroken : Kept s → brokenOf s ≡ 0

@@ -1,15 +1,16 @@
 -- From six tests to the rules at a shape, and from an operation to its shape. Assumes nothing.
-use Prim.Native.Nat.{ℕ, _+_, _≤_}
+use Prim.Native.Nat.{ℕ, _+_, _≤_, _<_}
 use mathlib.Core.Path.{_≡_, refl, sym, ap, _∙_}
 use mathlib.Core.Bool.{Bool, true, false, false≢true, cond}
+use mathlib.Core.Logic.{_⊎_, inl, inr}
 use mathlib.Core.List.{List, [], _∷_}
 use native.Mathlib.Omega.{arith}
-use borrow.Author.Tests.{eqb-true, ne-eqb, lt-leb, leb-true}
+use borrow.Author.Tests.{eqb-true, ne-eqb, lt-leb, leb-true, leb-false}
 use lib.Dec.{eqb, leb}
-use Rattle.choices.proofs.Choices.{by-bool}
+use Rattle.choices.proofs.Choices.{by-bool, cond-cases}
 use Rattle.image.specs.Instruction.{operationOf, flagsOf, aOf, bOf, cOf}
-use Rattle.checker.specs.Operations.{Shape, unknown, shapeOf, shapeAt}
-use Rattle.checker.specs.Rules.{carried, tidy, registersIn, constantsIn, targetsIn, prototypeIn, lowest, brokenAs, brokenOf}
+use Rattle.checker.specs.Operations.{Shape, copies, combines, unknown, shapeOf, Numbered, shapeAt}
+use Rattle.checker.specs.Rules.{carried, tidy, registersIn, constantsIn, targetsIn, prototypeInImage, lowest, brokenAs, brokenOf}
 use Rattle.checker.specs.Decode.{operandsOf, decodeOf}
 use Rattle.checker.specs.Steps.{BytesOf, judged, decodeAs}
 use Rattle.checker.specs.declared.Site.{Site}
@@ -39,7 +40,7 @@ same-inside true true true true true true i j f = f refl
 module _ (x : Shape) (s : Site) where
   pub shaped :
       {r i j : Instruction} {k10 k11 k12 k13 k14 k15 : Bool} → r ≡ judged (lowest k10 k11 k12 k13 k14 k15) i → k10 ≡ carried x s
-      → k11 ≡ tidy x s → k12 ≡ registersIn x s → k13 ≡ constantsIn x s → k14 ≡ targetsIn x s → k15 ≡ prototypeIn x s
+      → k11 ≡ tidy x s → k12 ≡ registersIn x s → k13 ≡ constantsIn x s → k14 ≡ targetsIn x s → k15 ≡ prototypeInImage x s
       → (targetsIn x s ≡ true → i ≡ j) → r ≡ decodeAs x s j
   unfolding brokenAs
   shaped {k10 = k10} {k11 = k11} {k12 = k12} {k13 = k13} {k14 = k14} {k15 = k15} e e10 e11 e12 e13 e14 e15 f =
@@ -56,6 +57,39 @@ module _ (s : Site) where
       let z : operationOf (s .word) ≡ k = sym eo ∙ ek in
       let t : shapeAt (s .word) ≡ x = ap shapeOf z ∙ ex in
       rw (t, f z) e
+
+-- ---- the operations of a shape
+
+module _ (o : ℕ) where
+  abbrev Its : Shape → Type 0
+  Its x = Numbered x o
+
+  late : 27 ≤ o → leb o 29 ≡ false → Its (cond (leb o 32) copies (cond (leb o 38) combines (cond (leb 40 o) (cond (leb o 44) combines unknown) unknown)))
+  late l n =
+      let m : 29 < o = leb-false o 29 n in
+      cond-cases Its (leb o 32) _ _ (λ t. inr (omega arith, leb-true _ _ t))
+      (λ t. let h : 32 < o = leb-false o 32 t in
+      cond-cases Its (leb o 38) _ _ (λ u. inl (omega arith, leb-true _ _ u))
+      (λ u. cond-cases Its (leb 40 o) _ _
+      (λ v. cond-cases Its (leb o 44) _ _ (λ w. inr (leb-true _ _ v, leb-true _ _ w)) (λ w. tt)) (λ v. tt)))
+
+  pub numbered : Its (shapeOf o)
+  unfolding shapeOf
+  numbered =
+      cond-cases Its (eqb o 0) _ _ (λ t. inl (eqb-true _ _ t))
+      (λ t1. cond-cases Its (eqb o 1) _ _ (λ t. eqb-true _ _ t)
+      (λ t2. cond-cases Its (eqb o 2) _ _ (λ t. eqb-true _ _ t)
+      (λ t3. cond-cases Its (eqb o 3) _ _ (λ t. eqb-true _ _ t)
+      (λ t10. cond-cases Its (eqb o 10) _ _ (λ t. eqb-true _ _ t)
+      (λ t12. cond-cases Its (eqb o 12) _ _ (λ t. eqb-true _ _ t)
+      (λ t14. cond-cases Its (eqb o 14) _ _ (λ t. eqb-true _ _ t)
+      (λ t15. cond-cases Its (eqb o 15) _ _ (λ t. eqb-true _ _ t)
+      (λ t16. cond-cases Its (eqb o 16) _ _ (λ t. eqb-true _ _ t)
+      (λ t17. cond-cases Its (eqb o 17) _ _ (λ t. eqb-true _ _ t)
+      (λ t18. cond-cases Its (eqb o 18) _ _ (λ t. eqb-true _ _ t)
+      (λ t19. cond-cases Its (eqb o 19) _ _ (λ t. eqb-true _ _ t)
+      (λ t27. cond-cases Its (leb 27 o) _ _
+      (λ l. cond-cases Its (leb o 29) _ _ (λ t. (leb-true _ _ l, leb-true _ _ t)) (λ t. late (leb-true _ _ l) t)) (λ l. tt)))))))))))))
 
 -- ---- an operation that is not carried
 

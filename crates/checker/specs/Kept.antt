@@ -5,7 +5,7 @@ use mathlib.Core.Bool.{true}
 use mathlib.Core.List.{List}
 use Rattle.storage.specs.Layout.{Storage, longEnough}
 use Rattle.storage.specs.Fields.{prototypesOf, instructionsOf}
-use Rattle.storage.specs.Stored.{readsBack}
+use Rattle.storage.specs.Stored.{ReadsTo}
 use Rattle.checker.specs.Operations.{shapeAt}
 use Rattle.checker.specs.Rules as rules
 use Rattle.checker.specs.Check.{siteOf, brokenAt}
@@ -18,7 +18,7 @@ pub record Kept (s : Site) : Type 0 where
   pub registers : rules.registersIn (shapeAt (s .word)) s ≡ true
   pub constants : rules.constantsIn (shapeAt (s .word)) s ≡ true
   pub targets : rules.targetsIn (shapeAt (s .word)) s ≡ true
-  pub prototype : rules.prototypeIn (shapeAt (s .word)) s ≡ true
+  pub prototype : rules.prototypeInImage (shapeAt (s .word)) s ≡ true
 
 abbrev pub KeptAt : List ℕ → List ℕ → ℕ → ℕ → Type 0
 KeptAt table code q i = Kept (siteOf table code q i)
@@ -28,10 +28,11 @@ pub record Sound (table code : List ℕ) (q : ℕ) : Type 0 where
   pub some : instructionsOf table q ≡ 0 → ⊥
   pub each : (i : ℕ) → i < instructionsOf table q → KeptAt table code q i
 
--- all that is demanded
+-- all that is demanded: the storage is long enough, it is what an image reads to, and its prototypes are sound
 pub record Demanded (S : Storage) : Type 0 where
   pub long : longEnough S ≡ true
-  pub reads : readsBack S ≡ true
+  pub image : List ℕ
+  pub reads : ReadsTo image S
   pub some : prototypesOf (S .table) ≡ 0 → ⊥
   pub each : (q : ℕ) → q < prototypesOf (S .table) → Sound (S .table) (S .code) q
 
@@ -49,6 +50,7 @@ pub data BadAt (table code : List ℕ) : ℕ → ℕ → ℕ → Type 0 where
 -- the first bad place: the prototypes before it are sound
 pub record FirstBad (S : Storage) (n q i : ℕ) : Type 0 where
   pub long : longEnough S ≡ true
-  pub reads : readsBack S ≡ true
+  pub image : List ℕ
+  pub reads : ReadsTo image S
   pub before : (j : ℕ) → j < q → Sound (S .table) (S .code) j
   pub here : BadAt (S .table) (S .code) n q i

@@ -1,5 +1,7 @@
 -- The 29 operations that are carried over, by the way they use their bytes: document 01, "What is carried over" and "Operands". Assumes nothing.
-use Prim.Native.Nat.{ℕ, _+_, _*_}
+use Prim.Native.Nat.{ℕ, _+_, _*_, _≤_}
+use mathlib.Core.Path.{_≡_}
+use mathlib.Core.Logic.{_⊎_}
 use mathlib.Core.Bool.{Bool, true, cond}
 use mathlib.Core.List.{List, [], _∷_}
 use lib.Dec.{eqb, leb, ltb}
@@ -57,6 +59,24 @@ shapeOf o =
     (cond (leb 27 o)
     (cond (leb o 29) compares (cond (leb o 32) copies (cond (leb o 38) combines (cond (leb 40 o) (cond (leb o 44) combines unknown) unknown))))
     unknown))))))))))))
+
+-- the same the other way round: the operations that have a shape, and no others (proofs/Shapes, `numbered`)
+abbrev pub Numbered : Shape → ℕ → Type 0
+Numbered copies o = (o ≡ 0) ⊎ ((30 ≤ o) × (o ≤ 32))
+Numbered loadsConstant o = o ≡ 1
+Numbered loadsBool o = o ≡ 2
+Numbered loadsNil o = o ≡ 3
+Numbered calls o = o ≡ 10
+Numbered returns o = o ≡ 12
+Numbered jumps o = o ≡ 14
+Numbered tests o = o ≡ 15
+Numbered testsAndSets o = o ≡ 16
+Numbered closes o = o ≡ 17
+Numbered prepares o = o ≡ 18
+Numbered loops o = o ≡ 19
+Numbered compares o = (27 ≤ o) × (o ≤ 29)
+Numbered combines o = ((33 ≤ o) × (o ≤ 38)) ⊎ ((40 ≤ o) × (o ≤ 44))
+Numbered unknown o = Unit {0}
 
 abbrev pub shapeAt : ℕ → Shape
 shapeAt w = shapeOf (operationOf w)

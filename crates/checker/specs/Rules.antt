@@ -119,22 +119,22 @@ unfoldable pub targetsIn : Shape → Site → Bool
 targetsIn x s = allInside (s .limits .instructions) (nextOf x (s .place) (s .word))
 
 -- 15: "Closure's prototype not in the image"
-unfoldable pub prototypeIn : Shape → Site → Bool
-prototypeIn copies s = true
-prototypeIn loadsConstant s = true
-prototypeIn loadsBool s = true
-prototypeIn loadsNil s = true
-prototypeIn calls s = true
-prototypeIn returns s = true
-prototypeIn jumps s = true
-prototypeIn tests s = true
-prototypeIn testsAndSets s = true
-prototypeIn closes s = ltb (b s) (s .limits .prototypes)
-prototypeIn prepares s = true
-prototypeIn loops s = true
-prototypeIn compares s = true
-prototypeIn combines s = true
-prototypeIn unknown s = true
+unfoldable pub prototypeInImage : Shape → Site → Bool
+prototypeInImage copies s = true
+prototypeInImage loadsConstant s = true
+prototypeInImage loadsBool s = true
+prototypeInImage loadsNil s = true
+prototypeInImage calls s = true
+prototypeInImage returns s = true
+prototypeInImage jumps s = true
+prototypeInImage tests s = true
+prototypeInImage testsAndSets s = true
+prototypeInImage closes s = ltb (b s) (s .limits .prototypes)
+prototypeInImage prepares s = true
+prototypeInImage loops s = true
+prototypeInImage compares s = true
+prototypeInImage combines s = true
+prototypeInImage unknown s = true
 
 -- "the lowest number wins": the number of the first rule that is broken, 0 where none is
 unfoldable pub lowest : Bool → Bool → Bool → Bool → Bool → Bool → ℕ
@@ -143,7 +143,7 @@ lowest k10 k11 k12 k13 k14 k15 =
 
 -- the rule that is broken by an instruction of shape x
 unfoldable pub brokenAs : Shape → Site → ℕ
-brokenAs x s = lowest (carried x s) (tidy x s) (registersIn x s) (constantsIn x s) (targetsIn x s) (prototypeIn x s)
+brokenAs x s = lowest (carried x s) (tidy x s) (registersIn x s) (constantsIn x s) (targetsIn x s) (prototypeInImage x s)
 
 unfoldable pub brokenOf : Site → ℕ
 brokenOf s = brokenAs (shapeAt (s .word)) s

@@ -22,9 +22,9 @@ pub record BytesOf (w : ℕ) (x : Bytes) : Type 0 where
   pub c : x .c ≡ cOf w
 
 -- a place z, if it lies in 0 to n - 1
-unfoldable pub placed : ℕ → ℤ → Place
-placed n (pos k) = record { inside = ltb k n; at = cond (ltb k n) k 0 }
-placed n (negsuc k) = record { inside = false; at = 0 }
+unfoldable pub placeIn : ℕ → ℤ → Place
+placeIn n (pos k) = record { inside = ltb k n; at = cond (ltb k n) k 0 }
+placeIn n (negsuc k) = record { inside = false; at = 0 }
 
 -- an instruction, or its refusal where it breaks rule n
 unfoldable pub judged : ℕ → Instruction → Instruction

@@ -7,10 +7,13 @@ mod rules;
 
 use storage::Validity;
 ghost use mathlib.Core.Path.{_≡_};
+ghost use Prim.Native.Nat.{_+_, _-_, _≤_, _<_};
+ghost use lib.ListN.{length};
 ghost use Rattle.storage.specs.Layout.{storageIn};
+ghost use Rattle.storage.specs.Fields.{firstInstruction, instructionsOf};
 ghost use Rattle.checker.specs.Rules.{brokenOf};
 ghost use Rattle.checker.specs.Decode.{decodeOf, classOf};
-ghost use Rattle.checker.specs.Check.{limitsOf, siteOf, searchOf, checkOf};
+ghost use Rattle.checker.specs.Check.{limitsOf, siteOf, codeFrom, searchOf, checkOf};
 
 // What an instruction may name: registers R, constants K and instructions n of its prototype, the image's prototypes.
 pub struct Limits {
@@ -192,7 +195,24 @@ pub fn site_of(table: &[u64], code: &[u64], q: usize, p: usize) -> Site
     }
 }
 
-// The rules alone, of contents that are known to be an image's: "stops at the first bad one, out of both".
+// What is refused from instruction i on, where `code` has ended: each word there is 0, a Move of register 0 to itself.
+// So the first one breaks a rule, or the last one does, which none follows.
+fn past_code(table: &[u64], code: &[u64], q: usize, i: usize) -> Checked
+    requires { ⌜ length (now code) ≤ firstInstruction (now table) q + i ⌝ }
+    requires { ⌜ i < instructionsOf (now table) q ⌝ }
+    ensures { λ r. ⌜ ((rest : Checked) → codeFrom (now (table .entry)) (now (code .entry)) q (instructionsOf (now (table .entry)) q - i) i rest ≡ r) ⌝ }
+{
+    let n = broken(site_of(table, code, q, i));
+    if n != 0 {
+        return Checked::Refused(n, q, i);
+    }
+    let instructions = storage::instructions(table, q);
+    Checked::Refused(14, q, instructions - 1)
+}
+
+// The rules alone, of contents that are known to be an image's: "stops at the first bad one, out of both". On any other
+// it takes, for each entry of the table, no more turns than there are words in `code`: past the table's end a prototype has
+// no instructions, and past the code's end none is looked at but the first.
 pub fn search(table: &[u64], code: &[u64]) -> Checked
     ensures { λ r. ⌜ r ≡ searchOf (now (table .entry)) (now (code .entry)) ⌝ }
 {
@@ -208,14 +228,20 @@ pub fn search(table: &[u64], code: &[u64]) -> Checked
             found = Checked::Refused(14, q, 0);
             break 'search;
         }
+        let first = storage::first_instruction(table, q);
+        let inside = slices::room(code.len(), first, instructions);
         let mut i: usize = 0;
-        while i < instructions {
+        while i < inside {
             let n = broken(site_of(table, code, q, i));
             if n != 0 {
                 found = Checked::Refused(n, q, i);
                 break 'search;
             }
             i += 1;
+        }
+        if inside < instructions {
+            found = past_code(table, code, q, inside);
+            break 'search;
         }
         q += 1;
     }

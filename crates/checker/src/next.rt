@@ -8,7 +8,7 @@ ghost use lib.IntN.{pos};
 ghost use mathlib.Core.Bool.{cond};
 ghost use Rattle.checker.specs.Operations.{targetOf};
 ghost use Rattle.checker.specs.Rules.{allInside};
-ghost use Rattle.checker.specs.Steps.{placed};
+ghost use Rattle.checker.specs.Steps.{placeIn};
 
 // A place and whether it lies in 0 to n - 1; the number of one that lies outside need not fit and is left at 0.
 pub(crate) struct Place {
@@ -18,7 +18,7 @@ pub(crate) struct Place {
 
 // d places after p.
 pub(crate) fn ahead(p: usize, d: usize, n: usize) -> Place
-    ensures { λ r. ⌜ r ≡ placed n (pos (p + d)) ⌝ }
+    ensures { λ r. ⌜ r ≡ placeIn n (pos (p + d)) ⌝ }
 {
     if n <= p {
         return Place {
@@ -57,7 +57,7 @@ pub(crate) fn skip_inside(s: Site) -> bool
 
 // p + 1, or p + 2 where it skips.
 pub(crate) fn next_or_skip(s: Site, goes_on: bool) -> Place
-    ensures { λ r. ⌜ r ≡ placed (s .limits .instructions) (pos (cond «goes_on» (s .place + 1) (s .place + 2))) ⌝ }
+    ensures { λ r. ⌜ r ≡ placeIn (s .limits .instructions) (pos (cond «goes_on» (s .place + 1) (s .place + 2))) ⌝ }
 {
     if goes_on {
         return ahead(s.place, 1, s.limits.instructions);
@@ -67,7 +67,7 @@ pub(crate) fn next_or_skip(s: Site, goes_on: bool) -> Place
 
 // From 32,768 on an offset is negative: -1, 65,535, leads to the instruction itself, -32,768 back by 32,767.
 pub(crate) fn target_of(s: Site) -> Place
-    ensures { λ r. ⌜ r ≡ placed (s .limits .instructions) (targetOf (s .place) (s .word)) ⌝ }
+    ensures { λ r. ⌜ r ≡ placeIn (s .limits .instructions) (targetOf (s .place) (s .word)) ⌝ }
 {
     let p = s.place;
     let bc = operands::bc_of(s.word);

@@ -6,7 +6,7 @@ ghost use mathlib.Core.Bool.{true, cond};
 ghost use lib.Dec.{eqb};
 ghost use Rattle.checker.specs.Operations.{bcOf};
 ghost use Rattle.checker.specs.Rules.{sourcesIn, sourceConstants};
-ghost use Rattle.checker.specs.Decode.{leftOf, rightOf};
+ghost use Rattle.checker.specs.Decode.{leftOperand, rightOperand};
 ghost use Rattle.checker.specs.Steps.{BytesOf};
 
 // Its bytes but the operation.
@@ -54,14 +54,14 @@ fn make_operand(is_constant: bool, at: usize) -> Operand
 }
 
 pub(crate) fn left_of(w: u64) -> Operand
-    ensures { λ r. ⌜ r ≡ leftOf w ⌝ }
+    ensures { λ r. ⌜ r ≡ leftOperand w ⌝ }
 {
     let x = bytes_of(w);
     make_operand(has_flag(x.flags, 1), x.b)
 }
 
 pub(crate) fn right_of(w: u64) -> Operand
-    ensures { λ r. ⌜ r ≡ rightOf w ⌝ }
+    ensures { λ r. ⌜ r ≡ rightOperand w ⌝ }
 {
     let x = bytes_of(w);
     make_operand(has_flag(x.flags, 2), x.c)

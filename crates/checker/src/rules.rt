@@ -14,7 +14,7 @@ ghost use mathlib.Core.Bool.{cond};
 ghost use Rattle.image.specs.Instruction.{aOf, bOf, cOf};
 ghost use Rattle.checker.specs.Operations.{copies, loadsConstant, loadsBool, loadsNil, calls, returns, jumps, tests, testsAndSets, closes, prepares, loops, compares, combines, bcOf};
 ghost use Rattle.checker.specs.Rules.{lowest};
-ghost use Rattle.checker.specs.Decode.{leftOf, rightOf, placeOf};
+ghost use Rattle.checker.specs.Decode.{leftOperand, rightOperand, placeOf};
 ghost use Rattle.checker.specs.Steps.{judged, decodeAs};
 
 // The lowest rule that is not kept, or the instruction.
@@ -266,7 +266,7 @@ pub(crate) fn decode_loop(s: Site) -> Instruction
 }
 
 pub(crate) fn decode_compares(o: Compare, s: Site) -> Instruction
-    ensures { λ r. ⌜ r ≡ decodeAs compares s (Instruction.Compare o (eqb (aOf (s .word)) 1) (leftOf (s .word)) (rightOf (s .word))) ⌝ }
+    ensures { λ r. ⌜ r ≡ decodeAs compares s (Instruction.Compare o (eqb (aOf (s .word)) 1) (leftOperand (s .word)) (rightOperand (s .word))) ⌝ }
 {
     let x = operands::bytes_of(s.word);
     let next = next::skip_inside(s);
@@ -283,7 +283,7 @@ pub(crate) fn decode_compares(o: Compare, s: Site) -> Instruction
 }
 
 pub(crate) fn decode_combines(o: Binary, s: Site) -> Instruction
-    ensures { λ r. ⌜ r ≡ decodeAs combines s (Instruction.Binary o (aOf (s .word)) (leftOf (s .word)) (rightOf (s .word))) ⌝ }
+    ensures { λ r. ⌜ r ≡ decodeAs combines s (Instruction.Binary o (aOf (s .word)) (leftOperand (s .word)) (rightOperand (s .word))) ⌝ }
 {
     let l = s.limits;
     let x = operands::bytes_of(s.word);

@@ -2,34 +2,24 @@
 use Prim.Native.Nat.{ℕ, _+_, _*_, _/_, _%_, _^_, _<_}
 use native.Mathlib.Omega.{arith}
 use mathlib.Core.Path.{_≡_, refl, sym}
-use Rattle.image.specs.Instruction.{packed, operationOf, flagsOf, aOf, bOf, cOf}
+use Rattle.image.specs.Instruction.{packed, operationOf, flagsOf, aOf, bOf, cOf, Packs, BytesBack, NumberBack}
 
 -- the highest part of a sum of three, above 34 bits
 top : (l m n : ℕ) → l < 0x100_0000 → m < 0x400 → (l + m * 0x100_0000 + n * 0x4_0000_0000) / 0x4_0000_0000 ≡ n
 top l m n g h = omega arith
 
--- w is the instruction of these five bytes
-pub record Packs (o f a b c w : ℕ) : Type 0 where
-  pub operation : operationOf w ≡ o
-  pub flags : flagsOf w ≡ f
-  pub first : aOf w ≡ a
-  pub second : bOf w ≡ b
-  pub third : cOf w ≡ c
-  pub fits : w < 2 ^ 40
-
-pub packed-back :
-    (o f a b c : ℕ) → o < 256 → f < 256 → a < 256 → b < 256 → c < 256 → Packs o f a b c (packed o f a b c)
+pub packed-back : BytesBack
 packed-back o f a b c o< f< a< b< c< =
     record {
-      operation = omega arith;
-      flags =
+      operation-back = omega arith;
+      flags-back =
           let low : packed o f a b c / 0x100_0000 % 4 ≡ f % 4 = omega arith in
           let high : packed o f a b c / 0x4_0000_0000 ≡ f / 4 =
           top (c + b * 0x100 + a * 0x1_0000) (o * 4 + f % 4) (f / 4) (omega arith) (omega arith) in
           rw (low, high) (omega arith);
-      first = omega arith;
-      second = omega arith;
-      third = omega arith;
+      a-back = omega arith;
+      b-back = omega arith;
+      c-back = omega arith;
       fits = omega arith;
     }
 
@@ -44,7 +34,7 @@ low x y = omega arith
 high : (x y : ℕ) → y < 64 → (x % 4 + y % 64 * 4) / 4 ≡ y
 high x y h = omega arith
 
-pub packed-fields : (w : ℕ) → w < 2 ^ 40 → packed (operationOf w) (flagsOf w) (aOf w) (bOf w) (cOf w) ≡ w
+pub packed-fields : NumberBack
 packed-fields w h =
     rw (low (w / 0x100_0000) (w / 0x4_0000_0000), high (w / 0x100_0000) (w / 0x4_0000_0000) (omega arith))
     (sym

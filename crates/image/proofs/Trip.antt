@@ -11,9 +11,9 @@ use lib.Dec.{leb, ltb, eqb}
 use borrow.Author.Tests.{ltb-true, leb-true, eqb-true}
 use Rattle.image.specs.Hex.{paired, bytesOf, wordFrom}
 use Rattle.image.specs.Lines.{Line, ended, unended, onto, lines}
-use Rattle.image.specs.Instruction.{packed}
+use Rattle.image.specs.Instruction.{packed, Packs}
 use Rattle.image.specs.Frames.{F, opens, const, str, code, ends, bad, shape, payload, mostOf, wordBytesOf, frameOf, kindBytes, openBytes, constBytes, codeBytes, endBytes, lineFrame, framesOf}
-use Rattle.image.specs.Judge.{stepOf, start, atEnd, after, judgeFrames, judgeOf}
+use Rattle.image.specs.Judge.{frameStep, start, atEnd, judgeAfter, judgeFrames, judgeOf}
 use Rattle.image.specs.Write.{hexOf, frameBytes, written}
 use Rattle.image.specs.declared.Counts.{Counts}
 use Rattle.image.specs.declared.Step.{Step}
@@ -22,7 +22,7 @@ use Rattle.image.specs.declared.Judged.{Judged}
 use Rattle.image.specs.declared.Judged.the-variants.{Accepted, Refused}
 use Rattle.choices.proofs.Choices.{by-bool, cond-cases}
 use Rattle.image.proofs.HexLaws.{AllBytes, bytes-drop, byte-lt, hex-back, word-bytes}
-use Rattle.image.proofs.Packing.{Packs, packed-back}
+use Rattle.image.proofs.Packing.{packed-back}
 use Rattle.image.proofs.Said.{Said, AllSaid, none, more}
 
 -- ---- frames
@@ -88,10 +88,10 @@ module _ (B : List ℕ) (bytes : AllBytes B) where
       six : length B ≡ 6 → frameBytes (code w) ≡ B
       six h = unfold frameBytes in
           front 0 _ _ (omega arith) k
-          (front 1 _ _ (omega arith) (fields .operation)
-          (front 2 _ _ (omega arith) (fields .flags)
-          (front 3 _ _ (omega arith) (fields .first)
-          (front 4 _ _ (omega arith) (fields .second) (front 5 _ _ (omega arith) (fields .third) (last 6 (omega arith)))))))
+          (front 1 _ _ (omega arith) (fields .operation-back)
+          (front 2 _ _ (omega arith) (fields .flags-back)
+          (front 3 _ _ (omega arith) (fields .a-back)
+          (front 4 _ _ (omega arith) (fields .b-back) (front 5 _ _ (omega arith) (fields .c-back) (last 6 (omega arith)))))))
 
   word-back : (tag : ℕ) → 2 ≤ length B → 0xb0 ≡ getD B 0 0 → tag ≡ getD B 1 0 → tag < 4 → Back (wordBytesOf tag (drop 2 B))
   unfolding wordBytesOf
@@ -185,8 +185,8 @@ written-lines (unended l ∷ ls) (and e g) = let z : _≡_ {A = ℕ} 0 1 = cc in
 
 -- ---- an accepted image refuses no frame
 
-good-step : (f : F) (st : Counts) → ((k : ℕ) → stepOf st (shape f) ≡ No k → ⊥) → good f ≡ true
-unfolding stepOf shape
+good-step : (f : F) (st : Counts) → ((k : ℕ) → frameStep st (shape f) ≡ No k → ⊥) → good f ≡ true
+unfolding frameStep shape
 good-step (opens r p) st e = refl
 good-step (const k w) st e = refl
 good-step (str l) st e = refl
@@ -199,10 +199,10 @@ unfolding atEnd
 good-end [] p n q e = no
 good-end (f ∷ fs) p n q e = let z : _≡_ {A = ℕ} 0 1 = cc in absurd (omega arith)
 
-by-step : (f : F) (fs : List F) (st : Counts) (n q : ℕ) (u : Step) → stepOf st (shape f) ≡ u
-    → after u (st .protos) n fs (λ t. judgeFrames t (n + 1) fs) ≡ Accepted q
+by-step : (f : F) (fs : List F) (st : Counts) (n q : ℕ) (u : Step) → frameStep st (shape f) ≡ u
+    → judgeAfter u (st .protos) n fs (λ t. judgeFrames t (n + 1) fs) ≡ Accepted q
     → ((t : Counts) → judgeFrames t (n + 1) fs ≡ Accepted q → AllGood fs) → AllGood (f ∷ fs)
-unfolding after
+unfolding judgeAfter
 by-step f fs st n q (On t) r e ih =
     and (good-step f st (λ k h. let z : _≡_ {A = ℕ} 0 1 = cc in omega arith)) (ih t e)
 by-step f fs st n q Done r e ih =
@@ -213,7 +213,7 @@ judge-good : (fs : List F) (st : Counts) (n q : ℕ) → judgeFrames st n fs ≡
 unfolding judgeFrames
 judge-good [] st n q e = no
 judge-good (f ∷ fs) st n q e =
-    by-step f fs st n q (stepOf st (shape f)) refl e (λ t. judge-good fs t (n + 1) q)
+    by-step f fs st n q (frameStep st (shape f)) refl e (λ t. judge-good fs t (n + 1) q)
 
 trip : (s : List ℕ) (q : ℕ) → judgeOf s ≡ Accepted q → (written (framesOf s) ≡ s) × AllSaid (framesOf s)
 unfolding framesOf judgeOf

@@ -31,13 +31,13 @@ codeStep st =
     (No 2)
 
 -- one frame more: at most 32 prototypes (3); "e0 count wrong" (2)
-unfoldable pub stepOf : Counts → Frame → Step
-stepOf st (Open r p) = cond (ltb (st .protos) 32) (On (record { protos = st .protos + 1; consts = 0; codes = 0 })) (No 3)
-stepOf st (Const k w) = constStep st
-stepOf st (Str n) = constStep st
-stepOf st (Code w) = codeStep st
-stepOf st (End n) = cond (eqb n (st .protos)) Done (No 2)
-stepOf st (Bad k) = No k
+unfoldable pub frameStep : Counts → Frame → Step
+frameStep st (Open r p) = cond (ltb (st .protos) 32) (On (record { protos = st .protos + 1; consts = 0; codes = 0 })) (No 3)
+frameStep st (Const k w) = constStep st
+frameStep st (Str n) = constStep st
+frameStep st (Code w) = codeStep st
+frameStep st (End n) = cond (eqb n (st .protos)) Done (No 2)
+frameStep st (Bad k) = No k
 
 abbrev pub start : Counts
 start = record { protos = 0; consts = 0; codes = 0 }
@@ -48,15 +48,15 @@ atEnd protos n [] = Accepted protos
 atEnd protos n (f ∷ fs) = Refused 4 n
 
 -- what a step's answer makes of the image: fs is what follows, n the line
-unfoldable pub after : Step → ℕ → ℕ → List F → (Counts → Judged) → Judged
-after (On st) protos n fs go = go st
-after Done protos n fs go = atEnd protos (n + 1) fs
-after (No k) protos n fs go = Refused k n
+unfoldable pub judgeAfter : Step → ℕ → ℕ → List F → (Counts → Judged) → Judged
+judgeAfter (On st) protos n fs go = go st
+judgeAfter Done protos n fs go = atEnd protos (n + 1) fs
+judgeAfter (No k) protos n fs go = Refused k n
 
 -- frames from line n on; "no e0 at the end"
 unfoldable pub judgeFrames : Counts → ℕ → List F → Judged
 judgeFrames st n [] = Refused 4 n
-judgeFrames st n (f ∷ fs) = after (stepOf st (shape f)) (st .protos) n fs (λ t. judgeFrames t (n + 1) fs)
+judgeFrames st n (f ∷ fs) = judgeAfter (frameStep st (shape f)) (st .protos) n fs (λ t. judgeFrames t (n + 1) fs)
 
 -- accepted with its number of prototypes, or refused with the number and the line. "Limits: 65,536 image bytes"
 unfoldable pub judgeOf : List ℕ → Judged

@@ -2,7 +2,7 @@
 // instruction's five bytes as one number. The format itself is defined in specs/.
 ghost use mathlib.Core.Path.{_≡_};
 ghost use Rattle.image.specs.Instruction.{packed, operationOf, flagsOf, aOf, bOf, cOf};
-ghost use Rattle.image.specs.Judge.{constStep, codeStep, stepOf};
+ghost use Rattle.image.specs.Judge.{constStep, codeStep, frameStep};
 ghost use Rattle.image.specs.Frames.{payload, mostOf};
 
 // A line's frame. A string's bytes stay in the line; a frame that is none is Bad, with the refusal's number.
@@ -83,7 +83,7 @@ fn code_step(st: Counts) -> Step
 
 // One frame more.
 pub fn step_on(st: Counts, f: Frame) -> Step
-    ensures { λ r. ⌜ r ≡ stepOf st f ⌝ }
+    ensures { λ r. ⌜ r ≡ frameStep st f ⌝ }
 {
     match f {
         Frame::Open(_, _) => {

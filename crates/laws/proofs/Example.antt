@@ -12,17 +12,17 @@ use Rattle.choices.proofs.Choices.{by-bool}
 use Rattle.image.specs.Hex.{digitOf, paired, bytesOf, wordFrom}
 use Rattle.image.specs.Lines.{onto, lines}
 use Rattle.image.specs.Frames.{F, opens, const, code, ends, shape, openBytes, payload, mostOf, wordBytesOf, constBytes, codeBytes, endBytes, kindBytes, frameOf, lineFrame, framesOf}
-use Rattle.image.specs.Judge.{constStep, codeStep, stepOf, atEnd, after, judgeFrames, judgeOf}
+use Rattle.image.specs.Judge.{constStep, codeStep, frameStep, atEnd, judgeAfter, judgeFrames, judgeOf}
 use Rattle.image.specs.declared.Judged.the-variants as judged
 use Rattle.storage.specs.Layout.{Storage, entryOf, codesOf, kindsOf, entriesAll, codesAll, contentsOf, laidIn, longEnough}
-use Rattle.storage.specs.Stored.{readsBack}
-use Rattle.storage.proofs.Six.{readable-back}
+use Rattle.storage.specs.Stored.{imageIn, readsBack}
+use Rattle.storage.proofs.Six.{readable, readable-back}
 use Rattle.reader.specs.Reading.{readOf, leftOf}
 use Rattle.writer.specs.Writing.{writeOf, outOf, Written}
 use Rattle.writer.specs.declared.Wrote.{Wrote}
 use Rattle.writer.proofs.RoundTrip.{left-long, read-written}
 use Rattle.checker.specs.Operations.{shapeOf, nextOf}
-use Rattle.checker.specs.Rules.{carried, tidy, registersIn, constantsIn, inside, allInside, targetsIn, prototypeIn}
+use Rattle.checker.specs.Rules.{carried, tidy, registersIn, constantsIn, inside, allInside, targetsIn, prototypeInImage}
 use Rattle.checker.specs.Check.{checkOf}
 use Rattle.checker.specs.declared.Checked.the-variants.{Accepted}
 use Rattle.checker.specs.Kept.{KeptAt, Sound, Demanded}
@@ -39,7 +39,7 @@ unfolding sessionImage framesOf lineFrame frameOf kindBytes endBytes codeBytes c
 frames-are = refl
 
 image-accepted : judgeOf sessionImage ≡ judged.Accepted 1
-unfolding judgeOf judgeFrames after atEnd stepOf codeStep constStep shape sessionImage framesOf lineFrame frameOf kindBytes endBytes codeBytes constBytes wordBytesOf mostOf payload openBytes lines onto wordFrom bytesOf paired digitOf
+unfolding judgeOf judgeFrames judgeAfter atEnd frameStep codeStep constStep shape sessionImage framesOf lineFrame frameOf kindBytes endBytes codeBytes constBytes wordBytesOf mostOf payload openBytes lines onto wordFrom bytesOf paired digitOf
 image-accepted = refl
 
 -- ---- read
@@ -68,11 +68,11 @@ module _ (x y : List ℕ) where
   codes = 0x400_0000 ∷ 0x3000_0100 ∷ y
 
   first : KeptAt table codes 0 0
-  unfolding shapeOf carried tidy registersIn constantsIn targetsIn allInside inside nextOf prototypeIn
+  unfolding shapeOf carried tidy registersIn constantsIn targetsIn allInside inside nextOf prototypeInImage
   first = record { carried = refl; tidy = refl; registers = refl; constants = refl; targets = refl; prototype = refl }
 
   second : KeptAt table codes 0 1
-  unfolding shapeOf carried tidy registersIn constantsIn targetsIn allInside inside nextOf prototypeIn
+  unfolding shapeOf carried tidy registersIn constantsIn targetsIn allInside inside nextOf prototypeInImage
   second = record { carried = refl; tidy = refl; registers = refl; constants = refl; targets = refl; prototype = refl }
 
   each : (i : ℕ) → i < 2 → KeptAt table codes 0 i
@@ -100,7 +100,8 @@ unfolding entriesAll entryOf codesAll codesOf kindsOf
 demanded lent l =
     record {
       long = left-long (contentsOf 1 frames) lent l;
-      reads = sym (ap readsBack (plain-is lent)) ∙ reads lent;
+      image = imageIn (plain lent);
+      reads = readable (plain lent) (sym (ap readsBack (plain-is lent)) ∙ reads lent);
       some = (λ e. omega arith);
       each = sound (drop 9 (lent .table)) (drop 2 (lent .code));
     }

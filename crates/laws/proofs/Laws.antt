@@ -1,7 +1,8 @@
--- Demands 2 and 3 on one page: a proof of each statement of specs/Statements. Assumes nothing.
-use mathlib.Core.Path.{_≡_}
+-- The demands on one page: a proof of each statement of specs/Statements. Assumes nothing.
+use mathlib.Core.Path.{_≡_, refl}
 use mathlib.Core.List.{List, []}
 use Prim.Native.Nat.{ℕ}
+use native.Mathlib.Omega.{arith}
 use Rattle.storage.specs.Layout.{Storage}
 use Rattle.state.specs.States.{State}
 use Rattle.starter.specs.Start.{begun}
@@ -17,6 +18,11 @@ use Rattle.laws.proofs.Started.{begun-demanded}
 use Rattle.laws.proofs.Splits as splits
 use Rattle.laws.proofs.Counts as counts
 use Rattle.laws.proofs.Example as example
+
+-- ---- demand 1: the sizes
+
+pub published : statements.Published
+published = (refl, (omega arith, (omega arith, (omega arith, (omega arith, (omega arith, (omega arith, tt)))))))
 
 -- ---- demand 2
 
@@ -62,6 +68,9 @@ split-any = splits.split-any
 
 pub counted : statements.CountsSteps
 counted = counts.counted
+
+pub whole-budget : statements.WholeBudget
+whole-budget = counts.whole-budget
 
 -- ---- W1 to W13, one claim about one list
 

@@ -12,7 +12,7 @@ use Rattle.integer.specs.declared.Divided.the-variants as division
 use Rattle.number.specs.declared.Whole.{Whole}
 use Rattle.number.specs.declared.Whole.the-variants.{Exact, NotWhole}
 use Rattle.constant.specs.Values.{kindOf, wordOf, isValue}
-use Rattle.constant.specs.Operators.{operands, arithmetic, divided, negateOf, integerOf, integers, bitwise, notWhole, bitNotOf, addOf, subtractOf}
+use Rattle.constant.specs.Operators.{operands, arithmetic, divided, negateOf, wholeOf, integers, bitwise, notWhole, bitNotOf, addOf, subtractOf}
 use Rattle.constant.specs.Comparison.{isNumeric, pastEndOf}
 use Rattle.constant.specs.declared.Value.{Value}
 use Rattle.constant.specs.declared.Value.the-variants.{Nil, Boolean, Integer, Number, String, Function}
@@ -84,7 +84,7 @@ whole-plain (Exact x) = tt
 whole-plain NotWhole = tt
 
 pub bit-not-plain : (v : Value) → PlainAnswer (bitNotOf v)
-bit-not-plain v = whole-plain (integerOf v)
+bit-not-plain v = whole-plain (wholeOf v)
 
 pub add-plain : (a b : Value) → PlainAnswer (addOf a b)
 add-plain a b = arithmetic-plain _ _ _ (λ x y. tt) (operands a b)

@@ -8,6 +8,7 @@ use borrow.Author.Tests.{eqb-true, eqb-false}
 use lib.Dec.{eqb}
 use Rattle.storage.specs.Layout.{Storage}
 use Rattle.storage.specs.Fields.{prototypesOf, registersOf, instructionsOf}
+use Rattle.storage.proofs.Six.{readable-back}
 use Rattle.checker.specs.Kept.{Demanded}
 use Rattle.choices.proofs.Choices.{cond-cases}
 use Rattle.state.specs.Frames.{markIn, depthIn, prototypeIn, instructionIn, baseOf}
@@ -64,7 +65,7 @@ step-stays S s demanded h =
     let g : Sight = sight t (S .kinds) (S .words) (S .texts) (s .kinds) (s .words) q base in
     let end : baseOf t f (depthIn f) ≡ base + registersOf t q = base-last t f (depthIn f) o in
     applied S s (h .fit) (h .runs) demanded (effectOf g (decodedAt t (S .code) q p)) (effect-suits t (S .code) q p g)
-    (effect-holds S (demanded .long) (demanded .reads) (s .kinds) (s .words) q base p hq
+    (effect-holds S (demanded .long) (readable-back (demanded .reads)) (s .kinds) (s .words) q base p hq
     (live t (S .kinds) (baseOf t f (depthIn f)) base (registersOf t q) (s .kinds) (s .words) (h .fit .valid) end) hp)
     (effect-tells g (decodedAt t (S .code) q p) (decoded-good S demanded q p hq hp))
 

@@ -11,6 +11,7 @@ use Rattle.choices.proofs.Choices.{by-bool, and-right, and-left}
 use Rattle.storage.specs.Layout.{Storage}
 use Rattle.storage.specs.Fields.{prototypesOf, registersOf, parametersOf, instructionsOf}
 use Rattle.constant.specs.Values.{isValue}
+use Rattle.storage.proofs.Six.{readable-back}
 use Rattle.checker.specs.Check.{checkOf}
 use Rattle.checker.specs.Kept.{Demanded}
 use Rattle.checker.specs.declared.Checked.{Checked}
@@ -130,13 +131,13 @@ module _
   facts =
       let lk = lengths .1 .0 in
       let lw = lengths .1 .1 in
-      let small = registers-fit S (demanded .reads) 0 some .1 in
+      let small = registers-fit S (readable-back (demanded .reads)) 0 some .1 in
       let n : ℕ = fewer (length argKinds) (parametersOf t 0) in
       let few : n ≤ length argKinds = fewer-left (length argKinds) (parametersOf t 0) in
       let more : 0 < instructionsOf t 0 = omega (arith, demanded .each 0 some .some) in
       record {
         lent = demanded .long;
-        reads = demanded .reads;
+        reads = readable-back (demanded .reads);
         kinds-long = rw length-first lk;
         words-long = rw length-first lw;
         mark = rw mark running-fits;

@@ -1,23 +1,20 @@
 -- Two images that the checker refuses, and a state, where two runs are not one: proofs/Examples. Assumes nothing.
 use mathlib.Core.List.{List, [], _∷_}
 use Prim.Native.Nat.{ℕ}
-use lib.ListN.{replicate}
 use Rattle.image.specs.Instruction.{packed}
 use Rattle.image.specs.Frames.{F, opens, code, ends}
-use Rattle.storage.specs.Layout.{Storage, storage, tableSize, codeSize, constantSize, textSize, contentsOf, laidIn}
+use Rattle.storage.specs.Layout.{Storage, blankStorage, contentsOf, laidIn}
 use Rattle.state.specs.Frames.{markWith, depthWith}
-use Rattle.state.specs.States.{State, state, framesSize, registersSize}
+use Rattle.state.specs.States.{State, state, blankState}
 
 -- what an image of n prototypes with these frames reads to, in slices of the published sizes that held zeros
 abbrev pub readFrom : ℕ → List F → Storage
 readFrom n frames =
-    laidIn (contentsOf n frames)
-    (storage (replicate tableSize 0) (replicate codeSize 0) (replicate constantSize 0) (replicate constantSize 0)
-    (replicate textSize 0))
+    laidIn (contentsOf n frames) blankStorage
 
 -- running at instruction 0 of prototype 0, as a start would leave it
 abbrev pub running : State
-running = state (depthWith 1 (markWith 70 (replicate framesSize 0))) (replicate registersSize 0) (replicate registersSize 0)
+running = state (depthWith 1 (markWith 70 (blankState .frames))) (blankState .kinds) (blankState .words)
 
 -- Closure, Call, Return; prototype 1 has no instruction, so the checker refuses the image
 abbrev pub hollow : Storage

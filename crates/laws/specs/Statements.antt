@@ -4,10 +4,10 @@ use mathlib.Core.Bool.{true}
 use mathlib.Core.Logic.{_↔_}
 use mathlib.Core.Path.{_≡_}
 use mathlib.Core.List.{List, [], _∷_}
-use Prim.Native.Nat.{ℕ, _+_, _≤_}
+use Prim.Native.Nat.{ℕ, _+_, _≤_, _<_}
 use lib.ListN.{length, take}
 use Rattle.image.specs.declared.Judged.the-variants as judged
-use Rattle.storage.specs.Layout.{Storage, laid}
+use Rattle.storage.specs.Layout.{Storage, laid, tableSize, codeSize, constantSize, textSize}
 use Rattle.storage.specs.Stored.{ReadsTo}
 use Rattle.reader.specs.Reading.{Read}
 use Rattle.writer.specs.Writing.{Written}
@@ -18,11 +18,24 @@ use Rattle.checker.specs.Kept.{Demanded, FirstBad}
 use Rattle.checker.specs.declared.Checked.the-variants.{Accepted, Refused}
 use Rattle.fitness.specs.Fit.{fitOf}
 use Rattle.state.specs.Marks.{isLuaError}
-use Rattle.state.specs.States.{State}
+use Rattle.state.specs.States.{State, framesSize, registersSize}
 use Rattle.step.specs.Step.{on, stop, fault, stepOf}
 use Rattle.step.specs.Run.{Ended, ended, outcome, answerOf, standingOf, runOf}
 use Rattle.step.specs.declared.Outcome.{Outcome}
 use Rattle.starter.specs.Start.{startOf, started}
+
+-- ---- demand 1: "sizes are published constants, none above 1,048,576"
+
+-- of the storage: table, code, constants (kinds and words alike), texts; of the state: frames, registers (kinds and words alike)
+abbrev pub sizes : List ℕ
+sizes = tableSize ∷ codeSize ∷ constantSize ∷ textSize ∷ framesSize ∷ registersSize ∷ []
+
+abbrev pub AtMost : ℕ → List ℕ → Type 0
+AtMost n [] = Unit {0}
+AtMost n (x ∷ xs) = (x ≤ n) × AtMost n xs
+
+abbrev pub Published : Type 0
+Published = (sizes ≡ 133 ∷ 5041 ∷ 8448 ∷ 32768 ∷ 34 ∷ 2308 ∷ []) × AtMost 1048576 sizes
 
 -- ---- demand 2: "An accepted image, written back, gives the same bytes."
 
@@ -122,18 +135,25 @@ pub data Steps (S : Storage) (s : State) : ℕ → State → Type 0 where
   none : Steps S s 0 s
   more : {n : ℕ} {t u : State} → Steps S s n t → stepOf S t ≡ on u → Steps S s (n + 1) u
 
--- how a run from s may end, and what it then counts
-pub data Counted (S : Storage) (s : State) : Ended → Type 0 where
+-- how a run from s on a budget may end, and what it then counts
+pub data Counted (S : Storage) (s : State) (budget : ℕ) : Ended → Type 0 where
   -- it was not running: nothing is counted, nothing changes
-  stood : Counted S s (ended (standingOf S s) s)
-  -- the budget is used: every step counts
-  spent : (n : ℕ) (t : State) → Steps S s n t → Counted S s (ended (answerOf 70 n t) t)
+  stood : ((standingOf S s) .number ≡ 70 → ⊥) → Counted S s budget (ended (standingOf S s) s)
+  -- the budget is used: every step counts, and there were as many
+  spent : (t : State) → Steps S s budget t → Counted S s budget (ended (answerOf 70 budget t) t)
   -- the last step finished or raised an error: it counts too
   stopped :
-      (n k : ℕ) (t u : State) → Steps S s n t → stepOf S t ≡ stop k u → Counted S s (ended (answerOf k (n + 1) u) u)
+      (n k : ℕ) (t u : State) → n < budget → Steps S s n t → stepOf S t ≡ stop k u
+      → Counted S s budget (ended (answerOf k (n + 1) u) u)
   -- the next step can't be taken: it doesn't count
-  faulted : (n : ℕ) (t u : State) → Steps S s n t → stepOf S t ≡ fault u → Counted S s (ended (answerOf 60 n u) u)
+  faulted :
+      (n : ℕ) (t u : State) → n < budget → Steps S s n t → stepOf S t ≡ fault u → Counted S s budget (ended (answerOf 60 n u) u)
 
 -- of any image, state and budget
 abbrev pub CountsSteps : Type 0
-CountsSteps = (S : Storage) (s : State) (b : ℕ) → Counted S s (runOf S b s)
+CountsSteps = (S : Storage) (s : State) (b : ℕ) → Counted S s b (runOf S b s)
+
+-- "70 only with the full budget counted": of any image, state and budget too
+abbrev pub WholeBudget : Type 0
+WholeBudget =
+    (S : Storage) (s : State) (b : ℕ) → (runOf S b s) .answer .number ≡ 70 → (runOf S b s) .answer .count ≡ b

@@ -19,7 +19,7 @@ use Rattle.step.specs.Run.{outcome, ended, runOf}
 use Rattle.step.specs.declared.Outcome.{Outcome}
 use Rattle.machine.specs.Answers.{readAnswer, writeAnswer, checkAnswer}
 use Rattle.machine.specs.Results.{returnedOf, spanOf}
-use Rattle.machine.specs.Face.{Said, said, tells, tells5, tells6, saying, saying5, saying6, left, bytesOf, returnedAnswer, textAnswer, dmRead, dmWrite, dmCheck, dmStart, dmRun, dmReturned, dmText}
+use Rattle.machine.specs.Face.{Said, said, tells, tells5, tells6, saying, saying5, saying6, leaving, bytesTold, returnedAnswer, textAnswer, dmRead, dmWrite, dmCheck, dmStart, dmRun, dmReturned, dmText}
 use Rattle.machine.specs.declared.Values.{Values}
 use Rattle.machine.specs.declared.Span.{Span}
 use Rattle.machine.specs.declared.Span.the-variants as span
@@ -33,19 +33,19 @@ module _ {X : Type 0} (l : List ℕ) (full refusal : X) where
   long : 8 ≤ length l → (x : X) → x ≡ full → x ≡ cond (leb 8 (length l)) full refusal
   long h x e = rw (le-leb _ _ h) e
 
-both : {L : Type 0} (s t : Said) (x y : L) → s ≡ t → x ≡ y → left s x ≡ left t y
+both : {L : Type 0} (s t : Said) (x y : L) → s ≡ t → x ≡ y → leaving s x ≡ leaving t y
 both s t x y e f = cc
 
 -- ---- dm_read
 
 module _ (image : List ℕ) (S : Storage) (l : List ℕ) where
-  pub read-short : length l < 8 → left (said 5 l) S ≡ dmRead image S l
+  pub read-short : length l < 8 → leaving (said 5 l) S ≡ dmRead image S l
   unfolding dmRead
   read-short h = too-short l _ _ h
 
   pub read-told :
       8 ≤ length l → (r : Judged) (S' : Storage) → Read image r S S' → (o : Outcome) → o ≡ readAnswer r → (n : ℕ) (l' : List ℕ) → said n l' ≡ saying o l
-      → left (said n l') S' ≡ dmRead image S l
+      → leaving (said n l') S' ≡ dmRead image S l
   unfolding dmRead
   read-told h r S' e o f n l' g =
       long l _ _ h _ (both _ _ _ _ (g ∙ rw (f, e .answer)) (e .left ∙ rw (e .answer)))
@@ -53,14 +53,14 @@ module _ (image : List ℕ) (S : Storage) (l : List ℕ) where
 -- ---- dm_write
 
 module _ (S : Storage) (out l : List ℕ) where
-  pub write-short : length l < 8 → left (said 5 l) out ≡ dmWrite S out l
+  pub write-short : length l < 8 → leaving (said 5 l) out ≡ dmWrite S out l
   unfolding dmWrite
   write-short h = too-short l _ _ h
 
   pub write-told :
-      8 ≤ length l → (r : Wrote) (out' : List ℕ) → Written S r out out' → (o : Outcome) → o ≡ writeAnswer r → (x : ℕ) → x ≡ bytesOf r → (n : ℕ) (l' : List ℕ)
+      8 ≤ length l → (r : Wrote) (out' : List ℕ) → Written S r out out' → (o : Outcome) → o ≡ writeAnswer r → (x : ℕ) → x ≡ bytesTold r → (n : ℕ) (l' : List ℕ)
       → said n l' ≡ saying5 o x l
-      → left (said n l') out' ≡ dmWrite S out l
+      → leaving (said n l') out' ≡ dmWrite S out l
   unfolding dmWrite
   write-told h r out' e o f x b n l' g =
       long l _ _ h _ (both _ _ _ _ (g ∙ rw (f, b, e .answer)) (e .left ∙ rw (e .answer)))
@@ -81,26 +81,26 @@ module _ (S : Storage) (l : List ℕ) where
 -- ---- dm_start
 
 module _ (S : Storage) (a b : List ℕ) (s : State) (l : List ℕ) where
-  pub start-short : length l < 8 → left (said 5 l) s ≡ dmStart S a b s l
+  pub start-short : length l < 8 → leaving (said 5 l) s ≡ dmStart S a b s l
   unfolding dmStart
   start-short h = too-short l _ _ h
 
   pub start-told :
       8 ≤ length l → (r : Checked) (s' : State) → started r s' ≡ startOf S a b s → (o : Outcome) → o ≡ checkAnswer r → (n : ℕ) (l' : List ℕ) → said n l' ≡ saying o l
-      → left (said n l') s' ≡ dmStart S a b s l
+      → leaving (said n l') s' ≡ dmStart S a b s l
   unfolding dmStart
   start-told h r s' e o f n l' g = rw (← e) (long l _ _ h _ (both _ _ _ _ (g ∙ rw f) refl))
 
 -- ---- dm_run
 
 module _ (S : Storage) (budget : ℕ) (s : State) (l : List ℕ) where
-  pub run-short : length l < 8 → left (said 60 l) s ≡ dmRun S budget s l
+  pub run-short : length l < 8 → leaving (said 60 l) s ≡ dmRun S budget s l
   unfolding dmRun
   run-short h = too-short l _ _ h
 
   pub run-told :
       8 ≤ length l → (o : Outcome) (s' : State) → ended o s' ≡ runOf S budget s → (n : ℕ) (l' : List ℕ) → said n l' ≡ saying o l
-      → left (said n l') s' ≡ dmRun S budget s l
+      → leaving (said n l') s' ≡ dmRun S budget s l
   unfolding dmRun
   run-told h o s' e n l' g = rw (← e) (long l _ _ h _ (both _ _ _ _ g refl))
 

@@ -1,12 +1,13 @@
--- What a host is told lies inside what was lent: a string's place within the texts, and returned values within the registers. Assumes nothing.
-use Prim.Native.Nat.{ℕ, _+_, _-_, _*_, _/_, _%_, _≤_, _<_}
+-- What a host is told lies inside what was lent: a string's place within the texts, where it has at most 64 bytes, and returned values within the registers of
+-- their window. Assumes nothing.
+use Prim.Native.Nat.{ℕ, _+_, _*_, _/_, _%_, _≤_, _<_}
 use native.Mathlib.Omega.{arith}
 use mathlib.Core.Path.{_≡_}
 use mathlib.Core.Bool.{true}
 use mathlib.Core.List.{List, [], _∷_}
 use lib.ListN.{length, getD}
 use lib.Dec.{eqb, ltb}
-use borrow.Author.Tests.{eqb-true, eqb-false, ltb-true}
+use borrow.Author.Tests.{eq-eqb, eqb-true, eqb-false, ltb-true}
 use Rattle.image.specs.Frames.{F, opens, const, str, code, shape}
 use Rattle.image.specs.declared.Counts.{Counts}
 use Rattle.image.specs.declared.Step.the-variants.{On, Done}
@@ -50,7 +51,7 @@ tops p c k x = record { entries = 1 + 4 * p; codes = k; consts = c; texts = x }
 
 module _ (S : Storage) (q i : ℕ) (string : getD (S .kinds) i 0 ≡ 4) (there : i < firstConstant (S .table) q) where
   abbrev Inside : Type 0
-  Inside = getD (S .words) i 0 / 65536 + getD (S .words) i 0 % 65536 ≤ length (S .texts)
+  Inside = (getD (S .words) i 0 / 65536 + getD (S .words) i 0 % 65536 ≤ length (S .texts)) × (getD (S .words) i 0 % 65536 ≤ 64)
 
   abbrev Lie : ℕ → ℕ → ℕ → ℕ → List F → Type 0
   Lie p c k x fs = Stands (tops p c k x) (all (tops p c k x) fs) S
@@ -64,7 +65,7 @@ module _ (S : Storage) (q i : ℕ) (string : getD (S .kinds) i 0 ≡ 4) (there :
       let w : getD (S .words) i 0 ≡ t .texts * 65536 + length b = rw g at (e .word) in
       let m : (t .texts * 65536 + length b) % 65536 ≡ length b = omega arith in
       let d : (t .texts * 65536 + length b) / 65536 ≡ t .texts = omega arith in
-      rw (w, m, d) a
+      rw (w, m, d) (a, h)
 
   no-string : (t : Tops) (k w : ℕ) → Constant t S k w → k < 4 → t .consts ≡ i → Inside
   no-string t k w e h g =
@@ -110,7 +111,9 @@ module _ (S : Storage) (q i : ℕ) (string : getD (S .kinds) i 0 ≡ 4) (there :
 -- ---- what is answered
 
 module _ (S : Storage) (word : ℕ) where
-  string-inside : readsBack S ≡ true → isString S word ≡ true → getD (S .words) word 0 / 65536 + getD (S .words) word 0 % 65536 ≤ length (S .texts)
+  string-inside :
+      readsBack S ≡ true → isString S word ≡ true
+      → (getD (S .words) word 0 / 65536 + getD (S .words) word 0 % 65536 ≤ length (S .texts)) × (getD (S .words) word 0 % 65536 ≤ 64)
   unfolding isString
   string-inside e s =
       let r = readable S e in
@@ -119,6 +122,9 @@ module _ (S : Storage) (word : ℕ) where
       let kind = eqb (getD (S .kinds) word 0) 4 in
       inside-from S (prototypesOf (S .table)) word (eqb-true _ _ (and-right below kind s)) (ltb-true _ _ (and-left below kind s)) (f .runs)
       (accepted-said (imageIn S) (r .count) (r .accepted)) 0 0 0 (omega arith) (omega arith) (f .lies)
+
+  pub string-short : readsBack S ≡ true → isString S word ≡ true → getD (S .words) word 0 % 65536 ≤ 64
+  string-short e s = string-inside e s .1
 
   abbrev Fine : Span → Type 0
   Fine s = (from n : ℕ) → s ≡ At from n → from + n ≤ length (S .texts)
@@ -132,7 +138,7 @@ module _ (S : Storage) (word : ℕ) where
       cond-cases Fine (longEnough S) _ _
       (λ a. cond-cases Fine (readsBack S) _ _
       (λ b. cond-cases Fine (isString S word) _ _
-      (λ c from n e. let h = string-inside b c in
+      (λ c from n e. let h = string-inside b c .0 in
       let x : getD (S .words) word 0 / 65536 ≡ from = cc in
       let y : getD (S .words) word 0 % 65536 ≡ n = cc in
       omega arith)
@@ -158,13 +164,19 @@ module _ (S : Storage) (s : State) where
       omega (arith, y .ends, base-last (S .table) (s .frames) (depthIn (s .frames)) (y .some))))
       (λ f. rw f (λ n. absurd (omega arith)))
 
-  pub values-inside : (returnedOf S s) .first + (returnedOf S s) .count ≤ 2048
+  pub values-window :
+      (standingOf S s) .number ≡ 0 → (returnedOf S s) .first + (returnedOf S s) .count ≤ registersOf (S .table) ((standingOf S s) .prototype)
   unfolding returnedOf
-  values-inside =
+  values-window n =
       let o = standingOf S s in
       let i = decodedAt (S .table) (S .code) (o .prototype) (o .instruction) in
       let l = limitsOf (S .table) (o .prototype) in
       let w = class-within l (o .instruction) i (decoded-within (S .table) (S .code) (o .prototype) (o .instruction)) in
-      by-bool (eqb (o .number) 0)
-      (λ n. rw n (omega (arith, named-inside l o (classOf i) w, standing-window (eqb-true _ _ n))))
+      rw (eq-eqb _ _ n) (named-inside l o (classOf i) w)
+
+  pub values-inside : (returnedOf S s) .first + (returnedOf S s) .count ≤ 2048
+  unfolding returnedOf
+  values-inside =
+      by-bool (eqb ((standingOf S s) .number) 0)
+      (λ n. omega (arith, values-window (eqb-true _ _ n), standing-window (eqb-true _ _ n)))
       (λ n. rw n (omega arith))

@@ -60,27 +60,27 @@ pub record Left (L : Type 0) : Type 0 where
   pub said : Said
   pub lent : L
 
-abbrev pub left : {L : Type 0} → Said → L → Left L
-left s l = record { said = s; lent = l }
+abbrev pub leaving : {L : Type 0} → Said → L → Left L
+leaving s l = record { said = s; lent = l }
 
 -- ---- dm_read
 
 unfoldable pub dmRead : List ℕ → Storage → List ℕ → Left Storage
 dmRead image S l =
-    cond (leb answerSize (length l)) (left (saying (readAnswer (readOf image S)) l) (leftOf (readOf image S) (framesOf image) S))
-    (left (said 5 l) S)
+    cond (leb answerSize (length l)) (leaving (saying (readAnswer (readOf image S)) l) (leftOf (readOf image S) (framesOf image) S))
+    (leaving (said 5 l) S)
 
 -- ---- dm_write: answer[4] is how many bytes were written
 
-abbrev pub bytesOf : Wrote → ℕ
-bytesOf (wrote.Bytes n) = n
-bytesOf (wrote.Refused number) = 0
+abbrev pub bytesTold : Wrote → ℕ
+bytesTold (wrote.Bytes n) = n
+bytesTold (wrote.Refused number) = 0
 
 unfoldable pub dmWrite : Storage → List ℕ → List ℕ → Left (List ℕ)
 dmWrite S out l =
     cond (leb answerSize (length l))
-    (left (saying5 (writeAnswer (writeOf S out)) (bytesOf (writeOf S out)) l) (outOf (writeOf S out) S out))
-    (left (said 5 l) out)
+    (leaving (saying5 (writeAnswer (writeOf S out)) (bytesTold (writeOf S out)) l) (outOf (writeOf S out) S out))
+    (leaving (said 5 l) out)
 
 -- ---- dm_check
 
@@ -92,13 +92,13 @@ dmCheck S l = cond (leb answerSize (length l)) (saying (checkAnswer (checkOf S))
 unfoldable pub dmStart : Storage → List ℕ → List ℕ → State → List ℕ → Left State
 dmStart S argKinds argWords s l =
     cond (leb answerSize (length l))
-    (left (saying (checkAnswer ((startOf S argKinds argWords s) .answer)) l) ((startOf S argKinds argWords s) .state))
-    (left (said 5 l) s)
+    (leaving (saying (checkAnswer ((startOf S argKinds argWords s) .answer)) l) ((startOf S argKinds argWords s) .state))
+    (leaving (said 5 l) s)
 
 unfoldable pub dmRun : Storage → ℕ → State → List ℕ → Left State
 dmRun S budget s l =
-    cond (leb answerSize (length l)) (left (saying ((runOf S budget s) .answer) l) ((runOf S budget s) .state))
-    (left (said 60 l) s)
+    cond (leb answerSize (length l)) (leaving (saying ((runOf S budget s) .answer) l) ((runOf S budget s) .state))
+    (leaving (said 60 l) s)
 
 -- ---- dm_returned: answer[4] is the first register, answer[5] how many
 

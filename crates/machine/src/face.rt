@@ -9,7 +9,7 @@ ghost use Prim.Native.Nat.{_%_, _^_};
 ghost use lib.ListN.{set};
 ghost use Rattle.storage.specs.Layout.{storageIn, storageOut};
 ghost use Rattle.state.specs.States.{stateIn, stateOut};
-ghost use Rattle.machine.specs.Face.{said, saying, saying5, saying6, left, bytesOf, textAnswer, dmRead, dmWrite, dmCheck, dmStart, dmRun, dmReturned, dmText};
+ghost use Rattle.machine.specs.Face.{said, saying, saying5, saying6, leaving, bytesTold, textAnswer, dmRead, dmWrite, dmCheck, dmStart, dmRun, dmReturned, dmText};
 
 // How long `answer` has to be.
 pub const ANSWER: usize = 8;
@@ -70,7 +70,7 @@ pub extern "C" fn dm_read(
     texts: &mut [u8],
     answer: &mut [u32],
 ) -> u32
-    ensures { λ r. ⌜ left (said r (now (answer .exit))) (storageOut table code «const_kinds» «const_words» texts) ≡ dmRead (now (image .entry)) (storageIn table code «const_kinds» «const_words» texts) (now (answer .entry)) ⌝ }
+    ensures { λ r. ⌜ leaving (said r (now (answer .exit))) (storageOut table code «const_kinds» «const_words» texts) ≡ dmRead (now (image .entry)) (storageIn table code «const_kinds» «const_words» texts) (now (answer .entry)) ⌝ }
 {
     if answer.len() < ANSWER {
         return 5;
@@ -80,7 +80,7 @@ pub extern "C" fn dm_read(
 }
 
 fn bytes_of(r: Wrote) -> usize
-    ensures { λ n. ⌜ n ≡ bytesOf r ⌝ }
+    ensures { λ n. ⌜ n ≡ bytesTold r ⌝ }
 {
     match r {
         Wrote::Bytes(n) => n,
@@ -98,7 +98,7 @@ pub extern "C" fn dm_write(
     out: &mut [u8],
     answer: &mut [u32],
 ) -> u32
-    ensures { λ r. ⌜ left (said r (now (answer .exit))) (now (out .exit)) ≡ dmWrite (storageIn table code «const_kinds» «const_words» texts) (now (out .entry)) (now (answer .entry)) ⌝ }
+    ensures { λ r. ⌜ leaving (said r (now (answer .exit))) (now (out .exit)) ≡ dmWrite (storageIn table code «const_kinds» «const_words» texts) (now (out .entry)) (now (answer .entry)) ⌝ }
 {
     if answer.len() < ANSWER {
         return 5;
@@ -139,7 +139,7 @@ pub extern "C" fn dm_start(
     arg_words: &[u64],
     answer: &mut [u32],
 ) -> u32
-    ensures { λ r. ⌜ left (said r (now (answer .exit))) (stateOut frames kinds words) ≡ dmStart (storageIn table code «const_kinds» «const_words» texts) (now («arg_kinds» .entry)) (now («arg_words» .entry)) (stateIn frames kinds words) (now (answer .entry)) ⌝ }
+    ensures { λ r. ⌜ leaving (said r (now (answer .exit))) (stateOut frames kinds words) ≡ dmStart (storageIn table code «const_kinds» «const_words» texts) (now («arg_kinds» .entry)) (now («arg_words» .entry)) (stateIn frames kinds words) (now (answer .entry)) ⌝ }
 {
     if answer.len() < ANSWER {
         return 5;
@@ -172,7 +172,7 @@ pub extern "C" fn dm_run(
     budget: u32,
     answer: &mut [u32],
 ) -> u32
-    ensures { λ r. ⌜ left (said r (now (answer .exit))) (stateOut frames kinds words) ≡ dmRun (storageIn table code «const_kinds» «const_words» texts) budget (stateIn frames kinds words) (now (answer .entry)) ⌝ }
+    ensures { λ r. ⌜ leaving (said r (now (answer .exit))) (stateOut frames kinds words) ≡ dmRun (storageIn table code «const_kinds» «const_words» texts) budget (stateIn frames kinds words) (now (answer .entry)) ⌝ }
 {
     if answer.len() < ANSWER {
         return 60;

@@ -12,7 +12,6 @@ ghost use mathlib.Core.Path.{_≡_};
 ghost use mathlib.Core.List.{List};
 ghost use Prim.Native.Nat.{ℕ};
 ghost use Rattle.storage.specs.Layout.{storage, storageIn};
-ghost use Rattle.constant.specs.Values.{textOf};
 ghost use Rattle.state.specs.States.{stateIn};
 ghost use Rattle.machine.specs.Answers.{readAnswer, writeAnswer, checkAnswer};
 ghost use Rattle.machine.specs.Results.{named, returnedOf, isString, spanOf};
@@ -119,13 +118,6 @@ pub fn returned(
     named(o, checker::class_of(i))
 }
 
-// The bytes of a string: `word` is the number of its constant in the whole image, as a register holds it.
-pub fn text<'a>(const_words: &[u64], texts: &'a [u8], word: u64) -> &'a [u8]
-    ensures { λ r. ⌜ now r ≡ textOf (now («const_words» .entry)) (now (texts .entry)) word ⌝ }
-{
-    constant::text_of(const_words, texts, word)
-}
-
 // A string's place in the texts: where its bytes begin, and how many they are; or the refusal's number.
 pub enum Span {
     At(usize, usize),
@@ -139,6 +131,7 @@ fn is_string(table: &[u64], const_kinds: &[u8], word: usize) -> bool
     (word < n) & (slices::byte_at(const_kinds, 0, word) == 4)
 }
 
+// Where the bytes of a string are: `word` is the number of its constant in the whole image, as a register holds it.
 pub fn text_span(
     table: &[u64],
     code: &[u64],

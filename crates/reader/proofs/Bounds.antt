@@ -7,7 +7,7 @@ use lib.ListN.{length, length-append}
 use lib.Dec.{leb, ltb, eqb}
 use borrow.Author.Tests.{ltb-true, leb-true}
 use Rattle.image.specs.Frames.{F, opens, const, str, code, ends, bad, shape, framesOf}
-use Rattle.image.specs.Judge.{stepOf, constStep, codeStep, start, judgeOf}
+use Rattle.image.specs.Judge.{frameStep, constStep, codeStep, start, judgeOf}
 use Rattle.image.specs.Write.{written}
 use Rattle.image.specs.declared.Counts.{Counts}
 use Rattle.image.specs.declared.Step.{Step}
@@ -90,8 +90,8 @@ module _ (st : Counts) (o : Ok st) where
       (λ d. record { ok = (omega arith, omega arith); kinds = omega arith; entries = λ c k. omega (arith, none c k) }) (λ d. tt))
       (λ a. tt)
 
-  covers : (f : F) → Cover st f (stepOf st (shape f))
-  unfolding stepOf shape kindsOf entryOf
+  covers : (f : F) → Cover st f (frameStep st (shape f))
+  unfolding frameStep shape kindsOf entryOf
   covers (opens r p) =
       cond-cases (Cover st (opens r p)) (ltb (st .protos) 32) _ _
       (λ d.

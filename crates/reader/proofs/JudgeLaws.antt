@@ -7,7 +7,7 @@ use lib.ListN.{length, drop}
 use borrow.Author.Tests.{lt-ltb, le-ltb}
 use Rattle.image.specs.Lines.{lineLen}
 use Rattle.image.specs.Frames.{F, framesOf}
-use Rattle.image.specs.Judge.{stepOf, start, atEnd, after, judgeFrames, judgeOf}
+use Rattle.image.specs.Judge.{frameStep, start, atEnd, judgeAfter, judgeFrames, judgeOf}
 use Rattle.image.specs.declared.Counts.{Counts}
 use Rattle.image.specs.declared.Step.{Step}
 use Rattle.image.specs.declared.Step.the-variants.{On, Done, No}
@@ -53,25 +53,25 @@ module _ (l : List ℕ) (at n : ℕ) (st : Counts) (g : Going l at n st) where
 
   -- r is what reading the line at `at` gave, and its frame's step is known
   module _ (r : Next) (a : Advance l at r) where
-    turn : (u : Step) → stepOf st (r .frame) ≡ u
-        → judgeOf l ≡ after u (st .protos) n (framesOf (drop (r .next) l)) (λ t. judgeFrames t (n + 1) (framesOf (drop (r .next) l)))
+    turn : (u : Step) → frameStep st (r .frame) ≡ u
+        → judgeOf l ≡ judgeAfter u (st .protos) n (framesOf (drop (r .next) l)) (λ t. judgeFrames t (n + 1) (framesOf (drop (r .next) l)))
     unfolding judgeFrames
     turn u e = g .rest ∙ rw (a .list, ← a .here, e)
 
-    pub going-on : (t : Counts) → stepOf st (r .frame) ≡ On t → Going l (r .next) (n + 1) t
-    unfolding after
+    pub going-on : (t : Counts) → frameStep st (r .frame) ≡ On t → Going l (r .next) (n + 1) t
+    unfolding judgeAfter
     going-on t e = record { within = a .within; few = omega (arith, a .more, g .few); rest = turn (On t) e }
 
-    pub going-all : stepOf st (r .frame) ≡ Done → r .next ≡ length l → judgeOf l ≡ Accepted (st .protos)
-    unfolding after
+    pub going-all : frameStep st (r .frame) ≡ Done → r .next ≡ length l → judgeOf l ≡ Accepted (st .protos)
+    unfolding judgeAfter
     going-all e h = turn Done e ∙ end-all _ _ l (r .next) h
 
-    pub going-more : stepOf st (r .frame) ≡ Done → (r .next ≡ length l → ⊥) → judgeOf l ≡ Refused 4 (n + 1)
-    unfolding after
+    pub going-more : frameStep st (r .frame) ≡ Done → (r .next ≡ length l → ⊥) → judgeOf l ≡ Refused 4 (n + 1)
+    unfolding judgeAfter
     going-more e h =
         let k : r .next < length l = omega (arith, a .within) in
         turn Done e ∙ end-more _ _ l (r .next) k
 
-    pub going-no : (k : ℕ) → stepOf st (r .frame) ≡ No k → judgeOf l ≡ Refused k n
-    unfolding after
+    pub going-no : (k : ℕ) → frameStep st (r .frame) ≡ No k → judgeOf l ≡ Refused k n
+    unfolding judgeAfter
     going-no k e = turn (No k) e

@@ -9,7 +9,7 @@ use lib.Seq.{sets, length-sets}
 use Rattle.image.specs.Frames.{F, opens, const, str, code, ends, bad}
 use Rattle.storage.specs.declared.Tops.{Tops}
 use Rattle.storage.specs.Layout.{entryOf, codesOf, kindsOf, wordsOf, textsOf, entriesAll, codesAll, kindsAll, wordsAll, textsAll}
-use Rattle.reader.specs.Steps.{Small, Put, Suffice, Filled}
+use Rattle.reader.specs.Steps.{Small, FramePut, Suffice, Filled}
 
 -- storing one list after another
 sets-append : (l : List ℕ) (i : ℕ) (xs ys : List ℕ) → sets l i (xs ++ ys) ≡ sets (sets l i xs) (i + length xs) ys
@@ -69,7 +69,7 @@ module _ (all : List F) (l₀ c₀ k₀ w₀ x₀ : List ℕ) where
           texts = omega (arith, left .texts .count, s .texts);
         }
 
-    pub left-turn : (f : F) (r : Tops) (l' c' k' w' x' : List ℕ) → Left t (f ∷ fs) l c k w x → Put t r f l l' c c' k k' w w' x x'
+    pub left-turn : (f : F) (r : Tops) (l' c' k' w' x' : List ℕ) → Left t (f ∷ fs) l c k w x → FramePut t r f l l' c c' k k' w w' x x'
         → Left r fs l' c' k' w' x'
     unfolding entriesAll codesAll kindsAll wordsAll textsAll
     left-turn f r l' c' k' w' x' left u =

@@ -15,7 +15,7 @@ use Rattle.image.specs.declared.Frame.{Frame}
 use Rattle.image.specs.declared.Frame.the-variants.{Open, Const, Str, Code, End, Bad}
 use Rattle.storage.specs.declared.Tops.{Tops}
 use Rattle.storage.specs.Layout.{entryOf, codesOf, kindsOf, wordsOf, textsOf}
-use Rattle.reader.specs.Steps.{Put}
+use Rattle.reader.specs.Steps.{FramePut}
 use Rattle.choices.proofs.Choices.{cond-cases}
 use Rattle.image.proofs.HexLaws.{bytes-length}
 
@@ -165,21 +165,21 @@ str-line line n e = go (frameOf line) refl (told line) e
 
 module _ (t : Tops) (l c k w x : List ℕ) where
   pub put-open : (r q : ℕ)
-      → Put t (record { entries = t .entries + 4; codes = t .codes; consts = t .consts; texts = t .texts }) (opens r q)
+      → FramePut t (record { entries = t .entries + 4; codes = t .codes; consts = t .consts; texts = t .texts }) (opens r q)
       l (sets l (t .entries) (r ∷ q ∷ t .consts ∷ t .codes ∷ [])) c c k k w w x x
   unfolding entryOf codesOf kindsOf wordsOf textsOf
   put-open r q =
       record { topEntries = refl; topCodes = omega arith; topConsts = omega arith; topTexts = omega arith; table = refl; code = refl; kinds = refl; words = refl; texts = refl }
 
   pub put-end : (n : ℕ)
-      → Put t (record { entries = t .entries + 4; codes = t .codes; consts = t .consts; texts = t .texts }) (ends n)
+      → FramePut t (record { entries = t .entries + 4; codes = t .codes; consts = t .consts; texts = t .texts }) (ends n)
       l (sets l (t .entries) (0 ∷ 0 ∷ t .consts ∷ t .codes ∷ [])) c c k k w w x x
   unfolding entryOf codesOf kindsOf wordsOf textsOf
   put-end n =
       record { topEntries = refl; topCodes = omega arith; topConsts = omega arith; topTexts = omega arith; table = refl; code = refl; kinds = refl; words = refl; texts = refl }
 
   pub put-const : (tag v : ℕ)
-      → Put t (record { entries = t .entries; codes = t .codes; consts = t .consts + 1; texts = t .texts }) (const tag v)
+      → FramePut t (record { entries = t .entries; codes = t .codes; consts = t .consts + 1; texts = t .texts }) (const tag v)
       l l c c k (set k (t .consts + 0) tag) w (set w (t .consts + 0) v) x x
   unfolding entryOf codesOf kindsOf wordsOf textsOf
   put-const tag v =
@@ -187,20 +187,20 @@ module _ (t : Tops) (l c k w x : List ℕ) where
       (record { topEntries = omega arith; topCodes = omega arith; topConsts = refl; topTexts = omega arith; table = refl; code = refl; kinds = refl; words = refl; texts = refl })
 
   pub put-code : (v : ℕ)
-      → Put t (record { entries = t .entries; codes = t .codes + 1; consts = t .consts; texts = t .texts }) (code v)
+      → FramePut t (record { entries = t .entries; codes = t .codes + 1; consts = t .consts; texts = t .texts }) (code v)
       l l c (set c (t .codes + 0) v) k k w w x x
   unfolding entryOf codesOf kindsOf wordsOf textsOf
   put-code v =
       rw (add-zero (t .codes))
       (record { topEntries = omega arith; topCodes = refl; topConsts = omega arith; topTexts = omega arith; table = refl; code = refl; kinds = refl; words = refl; texts = refl })
 
-  pub put-bad : (n : ℕ) → Put t t (bad n) l l c c k k w w x x
+  pub put-bad : (n : ℕ) → FramePut t t (bad n) l l c c k k w w x x
   unfolding entryOf codesOf kindsOf wordsOf textsOf
   put-bad n =
       record { topEntries = omega arith; topCodes = omega arith; topConsts = omega arith; topTexts = omega arith; table = refl; code = refl; kinds = refl; words = refl; texts = refl }
 
   pub put-str : (s : List ℕ) (n : ℕ) → length s ≡ n
-      → Put t (record { entries = t .entries; codes = t .codes; consts = t .consts + 1; texts = t .texts + n }) (str s)
+      → FramePut t (record { entries = t .entries; codes = t .codes; consts = t .consts + 1; texts = t .texts + n }) (str s)
       l l c c k (set k (t .consts + 0) 4) w (set w (t .consts + 0) (t .texts * 65536 + n)) x (sets x (t .texts) s)
   unfolding entryOf codesOf kindsOf wordsOf textsOf
   put-str s n h =

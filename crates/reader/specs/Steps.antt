@@ -26,7 +26,7 @@ pub record Small (t : Tops) : Type 0 where
   pub texts : t .texts ≤ 1048576
 
 -- one frame was put at the tops t; r is how far the slices are filled now
-pub record Put (t r : Tops) (f : F) (l l' c c' k k' w w' x x' : List ℕ) : Type 0 where
+pub record FramePut (t r : Tops) (f : F) (l l' c c' k k' w w' x x' : List ℕ) : Type 0 where
   pub topEntries : r .entries ≡ t .entries + length (entryOf (t .consts) (t .codes) f)
   pub topCodes : r .codes ≡ t .codes + length (codesOf f)
   pub topConsts : r .consts ≡ t .consts + length (kindsOf f)

@@ -11,7 +11,7 @@ ghost use lib.ListN.{length, take, drop};
 ghost use lib.Seq.{sets};
 ghost use Rattle.image.specs.Hex.{paired, bytesOf};
 ghost use Rattle.image.specs.Frames.{shape, frameOf, framesOf};
-ghost use Rattle.reader.specs.Steps.{Small, Put, Suffice, Filled};
+ghost use Rattle.reader.specs.Steps.{Small, FramePut, Suffice, Filled};
 
 // The n bytes of a string's line, from its third on.
 fn put_text(line: &[u8], n: usize, texts: &mut [u8], top: usize)
@@ -49,7 +49,7 @@ fn put_frame(
 ) -> Tops
     requires { ⌜ f ≡ shape (frameOf (now line)) ⌝ }
     requires { ⌜ Small t ⌝ }
-    ensures { λ r. ⌜ Put t r (frameOf (now (line .entry))) (now (table .entry)) (now (table .exit)) (now (code .entry)) (now (code .exit)) (now («const_kinds» .entry)) (now («const_kinds» .exit)) (now («const_words» .entry)) (now («const_words» .exit)) (now (texts .entry)) (now (texts .exit)) ⌝ }
+    ensures { λ r. ⌜ FramePut t r (frameOf (now (line .entry))) (now (table .entry)) (now (table .exit)) (now (code .entry)) (now (code .exit)) (now («const_kinds» .entry)) (now («const_kinds» .exit)) (now («const_words» .entry)) (now («const_words» .exit)) (now (texts .entry)) (now (texts .exit)) ⌝ }
 {
     let at = t.entries;
     let k = t.codes;

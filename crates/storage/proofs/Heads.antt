@@ -12,7 +12,7 @@ use Rattle.image.specs.declared.Frame.the-variants.{Open, Const, Str, Code, End
 use Rattle.image.specs.declared.Step.the-variants.{On, Done}
 use Rattle.image.proofs.Said.{Said}
 use Rattle.storage.specs.Layout.{Storage, textsOf, textsAll}
-use Rattle.storage.specs.Cursor.{nextText, nextConst, nextCode, nextEntry, nextOf}
+use Rattle.storage.specs.Cursor.{nextText, nextConst, nextCode, nextEntry, nextFrame}
 use Rattle.storage.specs.declared.Tops.{Tops}
 use Rattle.storage.proofs.Places.{at-first, at-within}
 use Rattle.storage.proofs.Runs.{Runs, last, next, Told, opened, word, text, instruction, ended, told-as}
@@ -21,7 +21,7 @@ use Rattle.storage.proofs.Seen.{Entry, Constant, Instruction, open-seen
 
 -- the frame that a storage says at a place
 abbrev pub nextIn : Tops → Storage → Frame
-nextIn t S = nextOf t (S .table) (S .code) (S .kinds) (S .words) (S .texts)
+nextIn t S = nextFrame t (S .table) (S .code) (S .kinds) (S .words) (S .texts)
 
 module _ (t : Tops) (S : Storage) where
   abbrev cs : ℕ
@@ -31,7 +31,7 @@ module _ (t : Tops) (S : Storage) where
   ks = getD (S .table) (t .entries + 3) 0
 
   entry-says : (r p : ℕ) → Entry t S r p → nextIn t S ≡ nextEntry t r p
-  unfolding nextOf
+  unfolding nextFrame
   entry-says r p e =
       simp (
         le-leb _ _ (e .room),
@@ -52,7 +52,7 @@ module _ (t : Tops) (S : Storage) where
   end-says m e h = rw (entry-says 0 0 h) (ap End e)
 
   const-says : (k w : ℕ) → Constant t S k w → nextIn t S ≡ nextConst t (S .kinds) (S .words) (S .texts)
-  unfolding nextOf
+  unfolding nextFrame
   const-says k w e = simp (le-leb _ _ (e .room), lt-ltb _ _ (e .consts))
 
   word-says : (k w : ℕ) → Constant t S k w → Said (const k w) → nextIn t S ≡ Const k w
@@ -79,7 +79,7 @@ module _ (t : Tops) (S : Storage) where
       ))
 
   code-says : (w : ℕ) → Instruction t S w → w < 2 ^ 40 → nextIn t S ≡ Code w
-  unfolding nextOf nextCode
+  unfolding nextFrame nextCode
   code-says w e y =
       simp (
         le-leb _ _ (e .room),

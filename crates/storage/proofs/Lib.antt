@@ -1,5 +1,4 @@
--- The laws of the storage: its published sizes, and what the test behind 6 means (Six). The others serve Six and the test's code.
-pub mod Published
+-- The laws of the storage: what the test behind 6 means (Six). The others serve Six and the test's code.
 pub mod Six
 pub mod Places
 pub mod Runs

@@ -6,7 +6,7 @@ use mathlib.Core.List.{List, [], _∷_}
 use lib.Dec.{leb, ltb, eqb}
 use borrow.Author.Tests.{ltb-true, leb-true, eqb-true}
 use Rattle.image.specs.Frames.{F, opens, const, str, code, ends, bad, shape}
-use Rattle.image.specs.Judge.{constStep, codeStep, stepOf, atEnd, after, judgeFrames}
+use Rattle.image.specs.Judge.{constStep, codeStep, frameStep, atEnd, judgeAfter, judgeFrames}
 use Rattle.image.specs.declared.Counts.{Counts}
 use Rattle.image.specs.declared.Step.{Step}
 use Rattle.image.specs.declared.Step.the-variants.{On, Done, No}
@@ -16,18 +16,18 @@ use Rattle.choices.proofs.Choices.{cond-cases}
 -- ---- the run
 
 pub data Runs : Counts → ℕ → List F → Type 0 where
-  last : {st : Counts} {q : ℕ} {f : F} → stepOf st (shape f) ≡ Done → st .protos ≡ q → Runs st q (f ∷ [])
-  next : {st u : Counts} {q : ℕ} {f : F} {fs : List F} → stepOf st (shape f) ≡ On u → Runs u q fs → Runs st q (f ∷ fs)
+  last : {st : Counts} {q : ℕ} {f : F} → frameStep st (shape f) ≡ Done → st .protos ≡ q → Runs st q (f ∷ [])
+  next : {st u : Counts} {q : ℕ} {f : F} {fs : List F} → frameStep st (shape f) ≡ On u → Runs u q fs → Runs st q (f ∷ fs)
 
 module _ (f : F) (fs : List F) (st : Counts) (n q : ℕ) where
-  by-end : stepOf st (shape f) ≡ Done → (gs : List F) → atEnd (st .protos) (n + 1) gs ≡ Accepted q → Runs st q (f ∷ gs)
+  by-end : frameStep st (shape f) ≡ Done → (gs : List F) → atEnd (st .protos) (n + 1) gs ≡ Accepted q → Runs st q (f ∷ gs)
   unfolding atEnd
   by-end r [] e = last {q = q} r (cc)
   by-end r (g ∷ gs) e = let z : _≡_ {A = ℕ} 0 1 = cc in absurd (omega arith)
 
-  by-step : (u : Step) → stepOf st (shape f) ≡ u → after u (st .protos) n fs (λ t. judgeFrames t (n + 1) fs) ≡ Accepted q
+  by-step : (u : Step) → frameStep st (shape f) ≡ u → judgeAfter u (st .protos) n fs (λ t. judgeFrames t (n + 1) fs) ≡ Accepted q
       → ((t : Counts) → judgeFrames t (n + 1) fs ≡ Accepted q → Runs t q fs) → Runs st q (f ∷ fs)
-  unfolding after
+  unfolding judgeAfter
   by-step (On t) r e ih = next r (ih t e)
   by-step Done r e ih = by-end r fs e
   by-step (No k) r e ih = let z : _≡_ {A = ℕ} 0 1 = cc in absurd (omega arith)
@@ -35,10 +35,10 @@ module _ (f : F) (fs : List F) (st : Counts) (n q : ℕ) where
 pub accepted-runs : (fs : List F) (st : Counts) (n q : ℕ) → judgeFrames st n fs ≡ Accepted q → Runs st q fs
 unfolding judgeFrames
 accepted-runs [] st n q e = let z : _≡_ {A = ℕ} 0 1 = cc in absurd (omega arith)
-accepted-runs (f ∷ fs) st n q e = by-step f fs st n q (stepOf st (shape f)) refl e (λ t. accepted-runs fs t (n + 1) q)
+accepted-runs (f ∷ fs) st n q e = by-step f fs st n q (frameStep st (shape f)) refl e (λ t. accepted-runs fs t (n + 1) q)
 
 pub runs-accepted : {st : Counts} {q : ℕ} {fs : List F} → Runs st q fs → (n : ℕ) → judgeFrames st n fs ≡ Accepted q
-unfolding judgeFrames after atEnd
+unfolding judgeFrames judgeAfter atEnd
 runs-accepted (last r e) n = rw (r, e)
 runs-accepted (next r h) n = rw r (runs-accepted h (n + 1))
 
@@ -75,8 +75,8 @@ module _ (st : Counts) (f : F) where
       (λ a. cond-cases (Told st f) (ltb (st .codes) 4096) _ _ (λ b. on (leb-true _ _ a)) (λ b. refused))
       (λ a. refused)
 
-told : (f : F) (st : Counts) → Told st f (stepOf st (shape f))
-unfolding stepOf shape
+told : (f : F) (st : Counts) → Told st f (frameStep st (shape f))
+unfolding frameStep shape
 told (opens r p) st = cond-cases (Told st (opens r p)) (ltb (st .protos) 32) _ _ (λ a. opened (ltb-true _ _ a)) (λ a. refused)
 told (const k w) st = const-told st (const k w) word
 told (str l) st = const-told st (str l) text
@@ -84,7 +84,7 @@ told (code w) st = code-told st (code w) instruction
 told (ends m) st = cond-cases (Told st (ends m)) (eqb m (st .protos)) _ _ (λ a. ended (eqb-true _ _ a)) (λ a. refused)
 told (bad k) st = refused
 
-pub told-as : {st : Counts} {f : F} {x : Step} → stepOf st (shape f) ≡ x → Told st f x
+pub told-as : {st : Counts} {f : F} {x : Step} → frameStep st (shape f) ≡ x → Told st f x
 told-as {st} {f} e = subst (λ (x : Step). Told st f x) e (told f st)
 
 -- no prototype is closed again

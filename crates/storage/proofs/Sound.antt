@@ -14,7 +14,7 @@ use Rattle.choices.proofs.Choices.{cond-cases, by-order}
 use Rattle.image.proofs.HexLaws.{AllBytes, bytes-drop}
 use Rattle.image.proofs.Said.{Said}
 use Rattle.storage.specs.Layout.{Storage, entryOf, codesOf, kindsOf, wordsOf, textsOf}
-use Rattle.storage.specs.Cursor.{nextText, nextConst, nextCode, nextEntry, nextOf}
+use Rattle.storage.specs.Cursor.{nextText, nextConst, nextCode, nextEntry, nextFrame}
 use Rattle.storage.specs.declared.Tops.{Tops}
 use Rattle.storage.proofs.Places.{At, at-cons, at-four, at-part}
 use Rattle.storage.proofs.Lies.{Stands, one}
@@ -157,7 +157,7 @@ module _ (t : Tops) (S : Storage) (bytes : AllBytes (S .texts)) (few : t .entrie
         (λ b. none 6))
 
   pub sound : Sound (nextIn t S)
-  unfolding nextOf
+  unfolding nextFrame
   sound =
       let cs = getD (S .table) (t .entries + 2) 0 in
       let ks = getD (S .table) (t .entries + 3) 0 in

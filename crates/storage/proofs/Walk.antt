@@ -5,7 +5,7 @@ use mathlib.Core.Path.{_≡_, refl, sym, ap, subst, _∙_}
 use mathlib.Core.List.{List, [], _∷_}
 use lib.ListN.{length}
 use Rattle.image.specs.Frames.{F, shape}
-use Rattle.image.specs.Judge.{stepOf, start}
+use Rattle.image.specs.Judge.{frameStep, start}
 use Rattle.image.specs.Write.{written}
 use Rattle.image.specs.declared.Counts.{Counts}
 use Rattle.image.specs.declared.Frame.{Frame}
@@ -86,12 +86,12 @@ grown t (End n) b x y z = (omega arith, (omega arith, omega arith))
 grown t (Bad k) b x y z = (omega arith, (omega arith, omega arith))
 
 -- a frame that is counted, or ends, is one
-on-frame : (st u : Counts) (fr : Frame) → stepOf st fr ≡ On u → (k : ℕ) → fr ≡ Bad k → ⊥
-unfolding stepOf
+on-frame : (st u : Counts) (fr : Frame) → frameStep st fr ≡ On u → (k : ℕ) → fr ≡ Bad k → ⊥
+unfolding frameStep
 on-frame st u fr r k e = let g = rw e at r in let z : _≡_ {A = ℕ} 0 1 = cc in omega arith
 
-done-frame : (st : Counts) (fr : Frame) → stepOf st fr ≡ Done → (k : ℕ) → fr ≡ Bad k → ⊥
-unfolding stepOf
+done-frame : (st : Counts) (fr : Frame) → frameStep st fr ≡ Done → (k : ℕ) → fr ≡ Bad k → ⊥
+unfolding frameStep
 done-frame st fr r k e = let g = rw e at r in let z : _≡_ {A = ℕ} 0 1 = cc in omega arith
 
 -- ---- one turn
@@ -116,10 +116,10 @@ module _ {t : Tops} {st : Counts} {b : ℕ} {S : Storage} {fr : Frame} (T : Turn
   small : ((k : ℕ) → fr ≡ Bad k → ⊥) → sizeOf fr ≤ 1000
   small h = let a = there h in rw (← a .told) (size-said f (a .said))
 
-  pub on-small : (u : Counts) → stepOf st fr ≡ On u → sizeOf fr ≤ 1000
+  pub on-small : (u : Counts) → frameStep st fr ≡ On u → sizeOf fr ≤ 1000
   on-small u r = small (on-frame st u fr r)
 
-  pub done-small : stepOf st fr ≡ Done → sizeOf fr ≤ 1000
+  pub done-small : frameStep st fr ≡ Done → sizeOf fr ≤ 1000
   done-small r = small (done-frame st fr r)
 
   -- the rest of any image starts with a frame of this shape
@@ -128,7 +128,7 @@ module _ {t : Tops} {st : Counts} {b : ℕ} {S : Storage} {fr : Frame} (T : Turn
 
   -- ---- it is counted: the rest after it is the rest
 
-  module _ (u : Counts) (r : stepOf st fr ≡ On u) where
+  module _ (u : Counts) (r : frameStep st fr ≡ On u) where
     join : (n : ℕ) → Rest (past t fr) u (b + sizeOf fr) n S → Rest t st b n S
     join n R =
         let a = there (on-frame st u fr r) in
@@ -136,7 +136,7 @@ module _ {t : Tops} {st : Counts} {b : ℕ} {S : Storage} {fr : Frame} (T : Turn
         let z : sizeOf (shape f) ≡ sizeOf fr = ap sizeOf (a .told) in
         record {
           frames = f ∷ R .frames;
-          runs = next (ap (stepOf st) (a .told) ∙ r) (R .runs);
+          runs = next (ap (frameStep st) (a .told) ∙ r) (R .runs);
           lies = lies-join t f (R .frames) S (a .here) l;
           said = more (a .said) (R .said);
           size = omega (arith, R .size, size-first f (R .frames));
@@ -146,13 +146,13 @@ module _ {t : Tops} {st : Counts} {b : ℕ} {S : Storage} {fr : Frame} (T : Turn
     cut : (n : ℕ) {fs : List F} → Runs st (prototypesOf (S .table)) fs → Stands t (all t fs) S → AllSaid fs
         → b + length (written fs) ≡ n → n ≤ 65536 → Rest (past t fr) u (b + sizeOf fr) n S
     cut n (last g h) l ys s o =
-        let c = ap (stepOf st) (head (last g h) ys l) in
+        let c = ap (frameStep st) (head (last g h) ys l) in
         let z : _≡_ {A = ℕ} 0 1 = cc in
         absurd (omega arith)
     cut n (next {u = v} {f = g} {fs} p h) l (more y ys) s o =
         let x = head (next p h) (more y ys) l in
         let z : sizeOf (shape g) ≡ sizeOf fr = ap sizeOf x in
-        let c : stepOf st (shape g) ≡ stepOf st fr = ap (stepOf st) x in
+        let c : frameStep st (shape g) ≡ frameStep st fr = ap (frameStep st) x in
         let d : v ≡ u = cc in
         record {
           frames = fs;
@@ -166,7 +166,7 @@ module _ {t : Tops} {st : Counts} {b : ℕ} {S : Storage} {fr : Frame} (T : Turn
     pub walk-on : Walk (past t fr) u (b + sizeOf fr) S
     walk-on =
         let a = there (on-frame st u fr r) in
-        let k = kept t (told-as {f = f} (ap (stepOf st) (a .told) ∙ r)) (T .walk .entries) (T .walk .few) in
+        let k = kept t (told-as {f = f} (ap (frameStep st) (a .told) ∙ r)) (T .walk .entries) (T .walk .few) in
         let g = grown t fr b (T .walk .texts) (T .walk .codes) (T .walk .consts) in
         record {
           back = λ n R. T .walk .back n (join n R);
@@ -181,16 +181,16 @@ module _ {t : Tops} {st : Counts} {b : ℕ} {S : Storage} {fr : Frame} (T : Turn
 
   -- ---- it is refused: no image is left
 
-  refuse : (k : ℕ) → stepOf st fr ≡ No k → {q : ℕ} {fs : List F} → Runs st q fs → Stands t (all t fs) S → AllSaid fs → ⊥
-  refuse k r (last g h) l ys = let c = ap (stepOf st) (head (last g h) ys l) in let z : _≡_ {A = ℕ} 0 1 = cc in omega arith
-  refuse k r (next g h) l ys = let c = ap (stepOf st) (head (next g h) ys l) in let z : _≡_ {A = ℕ} 0 1 = cc in omega arith
+  refuse : (k : ℕ) → frameStep st fr ≡ No k → {q : ℕ} {fs : List F} → Runs st q fs → Stands t (all t fs) S → AllSaid fs → ⊥
+  refuse k r (last g h) l ys = let c = ap (frameStep st) (head (last g h) ys l) in let z : _≡_ {A = ℕ} 0 1 = cc in omega arith
+  refuse k r (next g h) l ys = let c = ap (frameStep st) (head (next g h) ys l) in let z : _≡_ {A = ℕ} 0 1 = cc in omega arith
 
-  pub walk-no : (k : ℕ) → stepOf st fr ≡ No k → (n : ℕ) → Whole n S → ⊥
+  pub walk-no : (k : ℕ) → frameStep st fr ≡ No k → (n : ℕ) → Whole n S → ⊥
   walk-no k r n R = let Q = T .walk .forth n R in refuse k r (Q .runs) (Q .lies) (Q .said)
 
   -- ---- it is the last: the image ends here
 
-  module _ (r : stepOf st fr ≡ Done) where
+  module _ (r : frameStep st fr ≡ Done) where
     pub walk-end : b + sizeOf fr ≤ 65536 → prototypesOf (S .table) ≡ st .protos → Whole (b + sizeOf fr) S
     walk-end h p =
         let a = there (done-frame st fr r) in
@@ -198,7 +198,7 @@ module _ {t : Tops} {st : Counts} {b : ℕ} {S : Storage} {fr : Frame} (T : Turn
         T .walk .back (b + sizeOf fr)
         (record {
           frames = f ∷ [];
-          runs = last (ap (stepOf st) (a .told) ∙ r) (sym p);
+          runs = last (ap (frameStep st) (a .told) ∙ r) (sym p);
           lies = lies-join t f [] S (a .here) (lies-none (past t (shape f)) S);
           said = more (a .said) none;
           size = omega (arith, size-first f [], size-nil);
@@ -212,7 +212,7 @@ module _ {t : Tops} {st : Counts} {b : ℕ} {S : Storage} {fr : Frame} (T : Turn
         let z : sizeOf (shape g) ≡ sizeOf fr = ap sizeOf x in
         (omega (arith, size-first g [], size-nil), sym h)
     ends-here (next p h) l ys s =
-        let c = ap (stepOf st) (head (next p h) ys l) in
+        let c = ap (frameStep st) (head (next p h) ys l) in
         let z : _≡_ {A = ℕ} 0 1 = cc in
         absurd (omega arith)
 

@@ -36,8 +36,8 @@ nextEntry t r p =
     cond (eqb r 0) (cond (eqb p 0) (End (t .entries / 4)) (Bad 6))
     (cond (leb r 255) (cond (leb p r) (Open r p) (Bad 6)) (Bad 6))
 
-unfoldable pub nextOf : Tops → List ℕ → List ℕ → List ℕ → List ℕ → List ℕ → Frame
-nextOf t l c k w x =
+unfoldable pub nextFrame : Tops → List ℕ → List ℕ → List ℕ → List ℕ → List ℕ → Frame
+nextFrame t l c k w x =
     cond (leb (t .entries + 4) (length l))
     (cond (ltb (t .consts) (getD l (t .entries + 2) 0)) (nextConst t k w x)
     (cond (eqb (t .consts) (getD l (t .entries + 2) 0))

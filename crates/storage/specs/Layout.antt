@@ -7,7 +7,7 @@
 use Prim.Native.Nat.{ℕ, _+_, _*_}
 use mathlib.Core.Bool.{Bool, false, cond}
 use mathlib.Core.List.{List, [], _∷_, _++_}
-use lib.ListN.{length, drop}
+use lib.ListN.{length, drop, replicate}
 use lib.Dec.{leb}
 use Rattle.slices.specs.Lent.{Slice, atCall, atReturn}
 use Rattle.image.specs.Frames.{F, opens, const, str, code, ends, bad}
@@ -124,6 +124,11 @@ constantSize = 8448
 
 abbrev pub textSize : ℕ
 textSize = 32768
+
+-- slices of these sizes, all zero
+abbrev pub blankStorage : Storage
+blankStorage =
+    storage (replicate tableSize 0) (replicate codeSize 0) (replicate constantSize 0) (replicate constantSize 0) (replicate textSize 0)
 
 unfoldable pub longEnough : Storage → Bool
 longEnough S =

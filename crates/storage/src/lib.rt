@@ -8,7 +8,7 @@ ghost use Rattle.storage.specs.Layout.{longEnough, storageIn};
 ghost use Prim.Native.Nat.{_+_, _-_, _≤_, _<_};
 ghost use Rattle.storage.specs.Fields.{prototypesOf, field, registersOf, parametersOf, firstConstant, firstInstruction, constantsOf, instructionsOf, instructionAt, constantKind, constantWord};
 ghost use Rattle.storage.specs.Stored.{validOf};
-ghost use Rattle.storage.specs.Cursor.{nextText, nextConst, nextCode, nextEntry, nextOf, sizeOf, past};
+ghost use Rattle.storage.specs.Cursor.{nextText, nextConst, nextCode, nextEntry, nextFrame, sizeOf, past};
 
 // The published sizes: how long the slices have to be.
 pub const TABLE: usize = 133;
@@ -267,7 +267,7 @@ fn next_from(
     texts: &[u8],
 ) -> Frame
     requires { ⌜ (t .entries ≤ 129) × (t .texts ≤ 65536) ⌝ }
-    ensures { λ r. ⌜ r ≡ nextOf t (now (table .entry)) (now (code .entry)) (now («const_kinds» .entry)) (now («const_words» .entry)) (now (texts .entry)) ⌝ }
+    ensures { λ r. ⌜ r ≡ nextFrame t (now (table .entry)) (now (code .entry)) (now («const_kinds» .entry)) (now («const_words» .entry)) (now (texts .entry)) ⌝ }
 {
     let at = t.entries;
     let c = t.consts as u64;

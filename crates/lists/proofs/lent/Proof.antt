@@ -5,17 +5,17 @@ use mathlib.Core.Path.{_≡_}
 use mathlib.Core.List.{List}
 use Prim.Native.Nat.{ℕ, _+_, _-_, _%_, _<_}
 use lib.ListN.{getD}
-use Rattle.lists.specs.Lines.{digitOf}
+use Rattle.lists.specs.Lines.{digitValue}
 use Rattle.lists.proofs.lent.Statement.{statement}
 use Rattle.lists.proofs.lent.Tie as tie
 
 first : (i : ℕ) → 0 + i ≡ i
 first i = omega arith
 
-none : (l : List ℕ) (i n d : ℕ) → d ≡ digitOf (getD l (0 + i) 0) → n < 2 - d % 3 → 0 ≡ n - (2 - digitOf (getD l i 0) % 3)
-none l i n d e h = let f : d ≡ digitOf (getD l i 0) = rw (first i) at e in omega arith
+none : (l : List ℕ) (i n d : ℕ) → d ≡ digitValue (getD l (0 + i) 0) → n < 2 - d % 3 → 0 ≡ n - (2 - digitValue (getD l i 0) % 3)
+none l i n d e h = let f : d ≡ digitValue (getD l i 0) = rw (first i) at e in omega arith
 
-some : (l : List ℕ) (i n d : ℕ) → d ≡ digitOf (getD l (0 + i) 0) → n - (2 - d % 3) ≡ n - (2 - digitOf (getD l i 0) % 3)
+some : (l : List ℕ) (i n d : ℕ) → d ≡ digitValue (getD l (0 + i) 0) → n - (2 - d % 3) ≡ n - (2 - digitValue (getD l i 0) % 3)
 some l i n d e = rw (e, first i)
 
 returns : tie.Need-returns

@@ -1,20 +1,20 @@
--- `storage::next_from` meets its contract: each return decides the tests of `nextOf` as the code did. Assumes nothing.
+-- `storage::next_from` meets its contract: each return decides the tests of `nextFrame` as the code did. Assumes nothing.
 use borrow.Author.Needs.{needs}
 use borrow.Author.Tests.{le-leb, lt-leb, lt-ltb, le-ltb, eq-eqb, ne-eqb}
-use Rattle.storage.specs.Cursor.{nextOf}
+use Rattle.storage.specs.Cursor.{nextFrame}
 use Rattle.storage.proofs.next_from.Statement.{statement}
 use Rattle.storage.proofs.next_from.Tie as tie
 
 returns : tie.Need-returns
-unfolding nextOf
+unfolding nextFrame
 returns c = simp (lt-leb _ _ (c .if1 .taken))
 
 returns-2 : tie.Need-returns-2
-unfolding nextOf
+unfolding nextFrame
 returns-2 c = simp (le-leb _ _ (c .before .before .before .before .if1 .left), lt-ltb _ _ (c .before .if2 .taken)) (c .next-const .ensures)
 
 returns-3 : tie.Need-returns-3
-unfolding nextOf
+unfolding nextFrame
 returns-3 c =
     let b = c .before .before .before in
     simp (
@@ -25,7 +25,7 @@ returns-3 c =
     ) (c .next-code .ensures)
 
 returns-4 : tie.Need-returns-4
-unfolding nextOf
+unfolding nextFrame
 returns-4 c =
     let i = c .before .before .before in
     let b = i .before .before .before in
@@ -38,7 +38,7 @@ returns-4 c =
     ) (c .next-entry .ensures)
 
 returns-5 : tie.Need-returns-5
-unfolding nextOf
+unfolding nextFrame
 returns-5 c =
     let b = c .before .before .before in
     simp (
@@ -50,7 +50,7 @@ returns-5 c =
     )
 
 returns-6 : tie.Need-returns-6
-unfolding nextOf
+unfolding nextFrame
 returns-6 c = simp (le-leb _ _ (c .before .before .before .before .if1 .left), le-ltb _ _ (c .before .if2 .left), ne-eqb _ _ (c .if3 .left))
 
 pub next-from-spec : {M : Type 1} → statement M

@@ -5,7 +5,7 @@ use Prim.Native.Nat.{_-_}
 use native.Mathlib.Omega.{arith}
 use mathlib.Core.Path.{_≡_, sym, _∙_}
 use borrow.Author.Needs.{needs}
-use Rattle.image.specs.Judge.{stepOf}
+use Rattle.image.specs.Judge.{frameStep}
 use Rattle.image.specs.declared.Step.the-variants.{On, Done}
 use Rattle.storage.specs.Layout.{Storage, storage}
 use Rattle.storage.proofs.Sizes.{size-pos}
@@ -54,7 +54,7 @@ returns : tie.Need-returns Inv-loop μ-loop
 returns c = let s = c .before .before in none _ (walk-no (turn s) _ (sym (s .step-on .ensures) ∙ c .enum-told .given .1))
 
 done : (c : tie.After-enum-told2 Inv-loop μ-loop)
-    → stepOf (c .before .before .before .before .before .loop .st) (c .before .before .before .next-from .result) ≡ Done
+    → frameStep (c .before .before .before .before .before .loop .st) (c .before .before .before .next-from .result) ≡ Done
 done c = sym (c .before .before .step-on .ensures) ∙ c .enum-told2 .given .1
 
 size-of-requires : tie.Need-size-of-requires Inv-loop μ-loop
@@ -85,7 +85,7 @@ returns-4 c =
     none _ (λ n w. c .if2 .left (c .before .before .prototypes .ensures ∙ walk-only (turn (d .before .before)) (done d) n w .1))
 
 on : (c : tie.After-known-told Inv-loop μ-loop)
-    → stepOf (c .before .before .before .before .before .before .loop .st) (c .before .before .before .before .next-from .result)
+    → frameStep (c .before .before .before .before .before .before .loop .st) (c .before .before .before .before .next-from .result)
     ≡ On (c .before .u .given .0 .0)
 on c = sym (c .before .before .before .step-on .ensures) ∙ c .before .u .given .1
 
