@@ -1,15 +1,10 @@
 -- What the bytes that were worked out say. Assumes nothing.
-use Prim.Native.Nat.{ℕ, _/_, _%_, _≤_}
-use native.Mathlib.Omega.{arith}
-use mathlib.Core.Bool.{Bool, true, false, cond}
-use mathlib.Core.Path.{_≡_, ap}
+use Prim.Native.Nat.{ℕ, _/_, _%_}
+use mathlib.Core.Path.{_≡_}
 use mathlib.Core.List.{List, [], _∷_, _++_, append-nil}
-use lib.ListN.{length, drop, length-append}
-use lib.Dec.{leb}
 use borrow.Author.Tests.{ne-eqb}
 use Rattle.image.specs.Frames.{payload}
 use Rattle.image.specs.Write.{wordBytes, frameBytes}
-use Rattle.storage.specs.Layout.{laid}
 use Rattle.writer.specs.Writing.{lineOf, Lined}
 use Rattle.step.specs.declared.Outcome.{Outcome}
 use Rattle.deletion.specs.Lines.{answerBytes, valueBytes}
@@ -17,15 +12,6 @@ use Rattle.deletion.specs.Lines.{answerBytes, valueBytes}
 -- the line of the same bytes
 pub lined-as : {l m out out' : List ℕ} {r : ℕ} → l ≡ m → Lined (lineOf l) r out out' → Lined (lineOf m) r out out'
 lined-as e p = rw e at p
-
--- it ends within the output
-by-test :
-    (b : Bool) (line out out' : List ℕ) (r : ℕ) → r ≡ cond b (length line) 0 → out' ≡ cond b (laid line out) out → r ≤ length out'
-by-test true line out out' r e f = omega (arith, ap length f, length-append line (drop (length line) out))
-by-test false line out out' r e f = omega arith
-
-pub within : {line out out' : List ℕ} {r : ℕ} → Lined line r out out' → r ≤ length out'
-within {line} {out} {out'} {r} p = by-test (leb (length line) (length out)) line out out' r (p .answer) (p .left)
 
 pub and-none : (l : List ℕ) → l ++ [] ≡ l
 and-none l = append-nil l
