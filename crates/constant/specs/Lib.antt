@@ -1,4 +1,3 @@
--- What the machine's values are, and its operators on them.
+-- What the machine's values are, and arithmetic and bit operations on them.
 pub mod Values
 pub mod Operators
-pub mod Comparison

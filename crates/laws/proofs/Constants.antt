@@ -16,12 +16,11 @@ use Rattle.choices.proofs.Choices.{cond-cases, by-order}
 use Rattle.image.proofs.Said.{Said, AllSaid, more}
 use Rattle.image.proofs.Trip.{accepted-said}
 use Rattle.storage.specs.Layout.{Storage}
-use Rattle.storage.specs.Fields.{prototypesOf, registersOf, parametersOf, firstConstant, firstInstruction, constantsOf, constantKind, constantWord}
+use Rattle.storage.specs.Fields.{prototypesOf, entryPlace, registersOf, parametersOf, firstConstant, firstInstruction, constantsOf, constantKind, constantWord}
 use Rattle.storage.specs.Stored.{imageIn, readsBack}
 use Rattle.storage.specs.Cursor.{past}
-use Rattle.storage.specs.declared.Tops.{Tops}
 use Rattle.storage.proofs.Runs.{Runs, last, next, Told, opened, word, text, instruction, ended, told-as}
-use Rattle.storage.proofs.Lies.{Stands, all, lies-rest}
+use Rattle.storage.proofs.Lies.{lies-rest, tops, Lie, lies-opened}
 use Rattle.storage.proofs.Seen.{Entry, open-seen, end-seen, word-seen, text-seen}
 use Rattle.storage.proofs.Reading.{reads-frames}
 use Rattle.storage.proofs.Six.{readable}
@@ -81,24 +80,17 @@ module _ (first : ℕ → ℕ) (q p c : ℕ) where
   grows-passed : Grows first q p (c + 1) → Grows first q p c
   grows-passed g = record { least = λ i a b. omega (arith, g .least i a b); grow = g .grow }
 
-abbrev tops : ℕ → ℕ → ℕ → ℕ → Tops
-tops p c k x = record { entries = 1 + 4 * p; codes = k; consts = c; texts = x }
-
 module _ (S : Storage) (q : ℕ) where
-  abbrev Lie : ℕ → ℕ → ℕ → ℕ → List F → Type 0
-  Lie p c k x fs = Stands (tops p c k x) (all (tops p c k x) fs) S
-
   registers-at : (p c k x r u : ℕ) → Entry (tops p c k x) S r u → registersOf (S .table) p ≡ r
-  registers-at p c k x r u e = ap (λ (n : ℕ). getD (S .table) n 0) (add-zero (1 + 4 * p)) ∙ e .registers
+  registers-at p c k x r u e = ap (λ (n : ℕ). getD (S .table) n 0) (add-zero (entryPlace p)) ∙ e .registers
 
   from-next : {st u : Counts} {f : F} {fs : List F} → Told st f (On u) → Runs u q fs → Said f
-      → ((c k x : ℕ) → Lie (u .protos) c k x fs → From S q (u .protos) c k)
-      → (c k x : ℕ) → Lie (st .protos) c k x (f ∷ fs) → From S q (st .protos) c k
+      → ((c k x : ℕ) → Lie S (u .protos) c k x fs → From S q (u .protos) c k)
+      → (c k x : ℕ) → Lie S (st .protos) c k x (f ∷ fs) → From S q (st .protos) c k
   unfolding past shape
   from-next {st} (opened {r} {p} a) h y ih c k x l =
       let t = tops (st .protos) c k x in
-      let four : 1 + 4 * st .protos + 4 ≡ 1 + 4 * (st .protos + 1) = omega arith in
-      let g = ih c k x (rw four at (lies-rest t (opens r p) _ S l)) in
+      let g = ih c k x (lies-opened S (st .protos) c k x r p _ l) in
       let e = open-seen t S r p _ l in
       let z = registers-at (st .protos) c k x r p e in
       record {
@@ -147,7 +139,7 @@ module _ (S : Storage) (q : ℕ) where
         constants = g .constants;
       }
 
-  from-last : {st : Counts} {f : F} → Told st f Done → st .protos ≡ q → (c k x : ℕ) → Lie (st .protos) c k x (f ∷ [])
+  from-last : {st : Counts} {f : F} → Told st f Done → st .protos ≡ q → (c k x : ℕ) → Lie S (st .protos) c k x (f ∷ [])
       → From S q (st .protos) c k
   from-last {st} (ended {m} e) z c k x l =
       let s = rw z at (end-seen (tops (st .protos) c k x) S m [] l) in
@@ -158,7 +150,7 @@ module _ (S : Storage) (q : ℕ) where
         constants = λ i a b. absurd (omega (arith, s .consts));
       }
 
-  from-runs : {st : Counts} {fs : List F} → Runs st q fs → AllSaid fs → (c k x : ℕ) → Lie (st .protos) c k x fs → From S q (st .protos) c k
+  from-runs : {st : Counts} {fs : List F} → Runs st q fs → AllSaid fs → (c k x : ℕ) → Lie S (st .protos) c k x fs → From S q (st .protos) c k
   from-runs (last r e) ys c k x l = from-last (told-as r) e c k x l
   from-runs (next r h) (more y ys) c k x l = from-next (told-as r) h y (λ c k x l. from-runs h ys c k x l) c k x l
 

@@ -42,7 +42,7 @@ abbrev told : List Outcome
 told = outcome 60 2 0 0 ∷ outcome 60 2 1 0 ∷ outcome 70 0 0 0 ∷ outcome 60 0 0 0 ∷ []
 
 computed : shown ≡ told
-unfolding slices-ranges.copyWithin slices-ranges.copyFrom slices-ranges.fillOf image-hex.digitOf image-hex.paired image-hex.bytesOf image-hex.wordFrom image-lines.onto image-lines.lines image-lines.lineLen image-frames.shape image-frames.openBytes image-frames.payload image-frames.mostOf image-frames.wordBytesOf image-frames.constBytes image-frames.codeBytes image-frames.endBytes image-frames.kindBytes image-frames.frameOf image-frames.lineFrame image-frames.framesOf image-frames.firstFrame image-judge.constStep image-judge.codeStep image-judge.frameStep image-judge.atEnd image-judge.judgeAfter image-judge.judgeFrames image-judge.judgeOf image-write.hexDigit image-write.hexOf image-write.wordBytes image-write.frameBytes image-write.written storage-layout.codesOf storage-layout.kindsOf storage-layout.wordsOf storage-layout.textsOf storage-layout.entryOf storage-layout.codesAll storage-layout.kindsAll storage-layout.wordsAll storage-layout.textsAll storage-layout.entriesAll storage-layout.longEnough storage-stored.constFrame storage-stored.constFrames storage-stored.codeFrames storage-stored.protoFrames storage-stored.protosFrames storage-stored.framesIn storage-stored.imageIn storage-stored.startsWith storage-stored.standsIn storage-stored.backIn storage-stored.readsBack storage-stored.validOf checker-operations.shapeOf checker-operations.targetOf checker-operations.leftIsConstant checker-operations.rightIsConstant checker-operations.nextOf checker-rules.carried checker-rules.tidy checker-rules.sourcesIn checker-rules.registersIn checker-rules.sourceConstants checker-rules.constantsIn checker-rules.inside checker-rules.allInside checker-rules.targetsIn checker-rules.prototypeInImage checker-rules.lowest checker-rules.brokenAs checker-rules.brokenOf checker-decode.leftOperand checker-decode.rightOperand checker-decode.placeOf checker-decode.unaryOf checker-decode.compareOf checker-decode.binaryOf checker-decode.operandsOf checker-decode.decodeOf checker-check.brokenAt checker-check.codeFrom checker-check.protosFrom checker-check.searchOf checker-check.checkOf state-frames.baseOf state-frames.clipped state-record.innermost state-window.windowOf state-window.windowFrom effects-effects.stored effects-effects.skipIf effects-effects.decided effects-effects.unaryEffect effects-effects.binaryAnswer effects-effects.compareEffect effects-effects.testSetEffect effects-effects.prepEffect effects-effects.loopWith effects-effects.loopEffect effects-effects.effectOf choices-below.allBelow state-states.stateLong fitness-fit.markFits fitness-fit.decodedAt fitness-fit.thereIn fitness-fit.beforeIn fitness-fit.waitsIn fitness-fit.stackFits fitness-fit.endFits fitness-fit.valueFits fitness-fit.registerFits fitness-fit.valuesFit fitness-fit.fitOf vm-step.placed vm-step.called vm-step.enterOf vm-step.backOf vm-step.leaveOf vm-step.carriedOut vm-step.stepOf vm-run.answerOf vm-run.standingOf vm-run.after vm-run.runFrom vm-run.runOf constant-values.valueOf constant-values.isValue
+unfolding slices-ranges.stores image-hex.digitOf image-hex.paired image-hex.bytesOf image-hex.wordFrom image-lines.onto image-lines.lines image-lines.lineLen image-frames.shape image-frames.openBytes image-frames.payload image-frames.mostOf image-frames.wordBytesOf image-frames.constBytes image-frames.codeBytes image-frames.endBytes image-frames.kindBytes image-frames.frameOf image-frames.lineFrame image-frames.framesOf image-frames.firstFrame image-judge.constStep image-judge.codeStep image-judge.frameStep image-judge.atEnd image-judge.judgeAfter image-judge.judgeFrames image-judge.judgeOf image-write.hexDigit image-write.hexOf image-write.wordBytes image-write.frameBytes image-write.written storage-layout.codesOf storage-layout.kindsOf storage-layout.wordsOf storage-layout.textsOf storage-layout.entryOf storage-layout.codesAll storage-layout.kindsAll storage-layout.wordsAll storage-layout.textsAll storage-layout.entriesAll storage-layout.longEnough storage-stored.constFrame storage-stored.constFrames storage-stored.codeFrames storage-stored.protoFrames storage-stored.protosFrames storage-stored.framesIn storage-stored.imageIn storage-stored.startsWith storage-stored.standsIn storage-stored.backIn storage-stored.readsBack storage-stored.validOf checker-operations.shapeOf checker-operations.targetOf checker-operations.leftIsConstant checker-operations.rightIsConstant checker-operations.nextOf checker-rules.carried checker-rules.tidy checker-rules.sourcesIn checker-rules.registersIn checker-rules.sourceConstants checker-rules.constantsIn checker-rules.inside checker-rules.allInside checker-rules.targetsIn checker-rules.prototypeInImage checker-rules.lowest checker-rules.brokenAs checker-rules.brokenOf checker-decode.leftOperand checker-decode.rightOperand checker-decode.placeOf checker-decode.unaryOf checker-decode.compareOf checker-decode.binaryOf checker-decode.operandsOf checker-decode.decodeOf checker-check.brokenAt checker-check.codeFrom checker-check.protosFrom checker-check.searchOf checker-check.checkOf state-frames.baseOf state-frames.clipped state-record.innermost state-window.windowOf state-window.windowFrom effects-effects.stored effects-effects.skipIf effects-effects.decided effects-effects.unaryEffect effects-effects.binaryAnswer effects-effects.compareEffect effects-effects.testSetEffect effects-effects.prepEffect effects-effects.loopWith effects-effects.loopEffect effects-effects.effectOf choices-below.allBelow state-states.stateLong fitness-fit.markFits fitness-fit.decodedAt fitness-fit.thereIn fitness-fit.beforeIn fitness-fit.waitsIn fitness-fit.stackFits fitness-fit.endFits fitness-fit.valueFits fitness-fit.registerFits fitness-fit.valuesFit fitness-fit.fitOf vm-step.placed vm-step.called vm-step.enterOf vm-step.backOf vm-step.leaveOf vm-step.carriedOut vm-step.stepOf vm-run.answerOf vm-run.standingOf vm-run.after vm-run.runFrom vm-run.runOf constant-values.valueOf constant-values.isValue
 computed = refl
 
 abbrev answer : ℕ → List Outcome → Outcome

@@ -9,12 +9,12 @@ use Rattle.storage.specs.Layout.{Storage}
 use Rattle.storage.specs.Fields.{prototypesOf, instructionsOf}
 use Rattle.constant.specs.Values.{truth, valueOf}
 use Rattle.constant.specs.Operators.{addOf}
-use Rattle.constant.specs.Comparison.{lessThanOf, lessEqualOf, isNumeric, pastEndOf}
+use Rattle.comparison.specs.Comparison.{lessThanOf, lessEqualOf, isNumeric, pastEndOf}
 use Rattle.constant.specs.declared.Value.{Value}
 use Rattle.constant.specs.declared.Answer.{Answer}
 use Rattle.constant.specs.declared.Answer.the-variants.{Is, Raises}
-use Rattle.constant.specs.declared.Compared.{Compared}
-use Rattle.constant.specs.declared.Compared.the-variants as compared
+use Rattle.comparison.specs.declared.Compared.{Compared}
+use Rattle.comparison.specs.declared.Compared.the-variants as compared
 use Rattle.checker.specs.Operations.{shapeAt}
 use Rattle.checker.specs.Decode.{decodeOf, classOf}
 use Rattle.checker.specs.Check.{siteOf}

@@ -13,7 +13,7 @@ use Rattle.number.specs.declared.Whole.{Whole}
 use Rattle.number.specs.declared.Whole.the-variants.{Exact, NotWhole}
 use Rattle.constant.specs.Values.{kindOf, wordOf, isValue}
 use Rattle.constant.specs.Operators.{operands, arithmetic, divided, negateOf, wholeOf, integers, bitwise, notWhole, bitNotOf, addOf, subtractOf}
-use Rattle.constant.specs.Comparison.{isNumeric, pastEndOf}
+use Rattle.comparison.specs.Comparison.{isNumeric, pastEndOf}
 use Rattle.constant.specs.declared.Value.{Value}
 use Rattle.constant.specs.declared.Value.the-variants.{Nil, Boolean, Integer, Number, String, Function}
 use Rattle.constant.specs.declared.BinaryOperatorError.{BinaryOperatorError}

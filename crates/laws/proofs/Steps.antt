@@ -36,7 +36,7 @@ use Rattle.reach.specs.Suits.{Suits}
 use Rattle.step.specs.Step.{Turn, on, stop, fault, placed, marked, calleeOf, callerOf, called, enterOf, backOf, leaveOf, carriedOut}
 use Rattle.laws.specs.Holds.{Holds}
 use Rattle.laws.specs.Statements.{LuaError}
-use Rattle.laws.proofs.Windows.{valid-less, valid-at, put-keep, length-window, length-fill, fewer-left, fill-keep, window-grow, window-keep}
+use Rattle.laws.proofs.Windows.{valid-less, valid-at, put-keep, length-window, length-stores, fewer-left, fill-keep, window-grow, window-keep}
 use Rattle.laws.proofs.Frames.{there-prototype, there-instruction}
 use Rattle.laws.proofs.Stacks.{stack-mark, stack-pop, stack-gone, stack-grown}
 use Rattle.laws.proofs.Marks.{Halts, finished, failed}
@@ -324,7 +324,7 @@ module _ (S : Storage) (s : State) (h : Fit S s) (runs : markIn (s .frames) ≡ 
       let lk = h .kinds-long in
       let lw = h .words-long in
       let i = st .steady .ends in
-      moved _ _ _ (placed-there a (instructionsOf t q) Next (u .1)) (rw length-fill lk) (rw length-fill lw)
+      moved _ _ _ (placed-there a (instructionsOf t q) Next (u .1)) (rw length-stores lk) (rw length-stores lw)
       (fill-keep t (S .kinds) m (base + r) (baseOf t f d) (s .kinds) (s .words) (omega arith) (omega arith) (h .valid))
   applied demanded (Loop r k w to) u v n =
       let lk = h .kinds-long in

@@ -11,11 +11,11 @@ use Rattle.storage.specs.Fields.{prototypesOf, registersOf, instructionsOf}
 use Rattle.storage.specs.Stored.{readsBack}
 use Rattle.constant.specs.Values.{isValue, valueOf, truth, notOf}
 use Rattle.constant.specs.Operators.{negateOf, bitNotOf}
-use Rattle.constant.specs.Comparison.{isEqualOf, lessThanOf, lessEqualOf}
+use Rattle.comparison.specs.Comparison.{isEqualOf, lessThanOf, lessEqualOf}
 use Rattle.constant.specs.declared.Value.{Value}
 use Rattle.constant.specs.declared.Answer.the-variants.{Is}
-use Rattle.constant.specs.declared.Compared.{Compared}
-use Rattle.constant.specs.declared.Compared.the-variants as compared
+use Rattle.comparison.specs.declared.Compared.{Compared}
+use Rattle.comparison.specs.declared.Compared.the-variants as compared
 use Rattle.checker.specs.Check.{limitsOf}
 use Rattle.checker.specs.declared.Unary.{Unary}
 use Rattle.checker.specs.declared.Unary.the-variants as unary

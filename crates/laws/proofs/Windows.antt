@@ -8,7 +8,7 @@ use borrow.Author.Tests.{eqb-true, eqb-false}
 use lib.Dec.{eqb}
 use lib.ListN.{length, getD, set, length-set}
 use lib.Seq.{getD-set-same, getD-set-other}
-use Rattle.slices.specs.Ranges.{copyWithin, copyFrom, fillOf}
+use Rattle.slices.specs.Ranges.{stores, copyWithin, copyFrom, fillOf}
 use Rattle.choices.proofs.Choices.{by-bool}
 use Rattle.state.specs.Window.{fewer, windowOf, windowFrom}
 use Rattle.state.proofs.Windows.{fewer-first, fewer-within}
@@ -18,28 +18,18 @@ use Rattle.fitness.specs.Facts.{Valid}
 
 -- ---- lengths stay
 
-pub length-within : (n : ℕ) (l : List ℕ) (src dst : ℕ) → length (copyWithin n l src dst) ≡ length l
-unfolding copyWithin
-length-within zero l src dst = refl
-length-within (suc n) l src dst = length-within n (set l dst (getD l src 0)) (src + 1) (dst + 1) ∙ length-set l dst (getD l src 0)
-
-pub length-from : (n : ℕ) (from : List ℕ) (src : ℕ) (l : List ℕ) (dst : ℕ) → length (copyFrom n from src l dst) ≡ length l
-unfolding copyFrom
-length-from zero from src l dst = refl
-length-from (suc n) from src l dst = length-from n from (src + 1) (set l dst (getD from src 0)) (dst + 1) ∙ length-set l dst (getD from src 0)
-
-pub length-fill : (n : ℕ) (l : List ℕ) (dst x : ℕ) → length (fillOf n l dst x) ≡ length l
-unfolding fillOf
-length-fill zero l dst x = refl
-length-fill (suc n) l dst x = length-fill n (set l dst x) (dst + 1) x ∙ length-set l dst x
+pub length-stores : (what : List ℕ → ℕ → ℕ) (n : ℕ) (l : List ℕ) (src dst : ℕ) → length (stores what n l src dst) ≡ length l
+unfolding stores
+length-stores what zero l src dst = refl
+length-stores what (suc n) l src dst = length-stores what n (set l dst (what l src)) (src + 1) (dst + 1) ∙ length-set l dst (what l src)
 
 pub length-window : (l : List ℕ) (src dst n size : ℕ) → length (windowOf l src dst n size) ≡ length l
 unfolding windowOf
-length-window l src dst n size = rw (length-fill, length-within)
+length-window l src dst n size = rw (length-stores, length-stores)
 
 pub length-first : (from l : List ℕ) (n size : ℕ) → length (windowFrom from l n size) ≡ length l
 unfolding windowFrom
-length-first from l n size = rw (length-fill, length-from)
+length-first from l n size = rw (length-stores, length-stores)
 
 pub fewer-left : (a b : ℕ) → fewer a b ≤ a
 fewer-left a b = fewer-first a b (fewer a b) refl
@@ -92,63 +82,52 @@ module _ (t c : List ℕ) where
       → Valid t c (m + 1) (set k m x) (set w m y)
   put-grow m x y k w lk lw ok v = put m (m + 1) m x y k w lk lw ok (λ j l d. omega (arith, d)) v
 
-  -- values copied from below the registers' end to that end: more registers are valid
-  pub copy-grow :
-      (n src m : ℕ) (k w : List ℕ) → m + n ≤ length k → m + n ≤ length w → src + n ≤ m → Valid t c m k w
-      → Valid t c (m + n) (copyWithin n k src m) (copyWithin n w src m)
-  unfolding copyWithin
-  copy-grow zero src m k w lk lw h v = let e : m + 0 ≡ m = omega arith in rw e v
-  copy-grow (suc n) src m k w lk lw h v =
-      let e : m + suc n ≡ m + 1 + n = omega arith in
-      rw e
-      (copy-grow n (src + 1) (m + 1) (set k m (getD k src 0)) (set w m (getD w src 0)) (rw length-set (omega arith))
-      (rw length-set (omega arith)) (omega arith)
-      (put-grow m (getD k src 0) (getD w src 0) k w (omega arith) (omega arith) (valid-at m src k w v (omega arith)) v))
+  -- what is stored is a value, at each of n places from src on, as long as the first m registers are valid
+  abbrev Values : (List ℕ → ℕ → ℕ) → (List ℕ → ℕ → ℕ) → ℕ → ℕ → ℕ → Type 0
+  Values kind word src n m =
+      (at m' : ℕ) (k w : List ℕ) → src ≤ at → at < src + n → m ≤ m' → Valid t c m' k w → valueFits t c (kind k at) (word w at) ≡ true
 
-  -- the same from other lists, all of whose elements are values
-  pub from-grow :
-      (n : ℕ) (fk fw : List ℕ) (src m : ℕ) (k w : List ℕ) → m + n ≤ length k → m + n ≤ length w
-      → ((j : ℕ) → j < src + n → valueFits t c (getD fk j 0) (getD fw j 0) ≡ true) → Valid t c m k w
-      → Valid t c (m + n) (copyFrom n fk src k m) (copyFrom n fw src w m)
-  unfolding copyFrom
-  from-grow zero fk fw src m k w lk lw h v = let e : m + 0 ≡ m = omega arith in rw e v
-  from-grow (suc n) fk fw src m k w lk lw h v =
-      let e : m + suc n ≡ m + 1 + n = omega arith in
-      rw e
-      (from-grow n fk fw (src + 1) (m + 1) (set k m (getD fk src 0)) (set w m (getD fw src 0)) (rw length-set (omega arith))
-      (rw length-set (omega arith)) (λ j l. h j (omega arith))
-      (put-grow m (getD fk src 0) (getD fw src 0) k w (omega arith) (omega arith) (h src (omega arith)) v))
+  -- stores of values
+  module _ (kind word : List ℕ → ℕ → ℕ) where
+    -- to the registers' end: more registers are valid
+    grow :
+        (n src m : ℕ) (k w : List ℕ) → m + n ≤ length k → m + n ≤ length w → Values kind word src n m → Valid t c m k w
+        → Valid t c (m + n) (stores kind n k src m) (stores word n w src m)
+    unfolding stores
+    grow zero src m k w lk lw h v = let e : m + 0 ≡ m = omega arith in rw e v
+    grow (suc n) src m k w lk lw h v =
+        let e : m + suc n ≡ m + 1 + n = omega arith in
+        rw e
+        (grow n (src + 1) (m + 1) (set k m (kind k src)) (set w m (word w src)) (rw length-set (omega arith)) (rw length-set (omega arith))
+        (λ at m' k' w' from to more. h at m' k' w' (omega arith) (omega arith) (omega arith))
+        (put-grow m (kind k src) (word w src) k w (omega arith) (omega arith) (h src m k w (omega arith) (omega arith) (omega arith) v) v))
 
-  pub fill-grow :
+    -- anywhere: no fewer are
+    keep :
+        (n src dst m : ℕ) (k w : List ℕ) → m ≤ length k → m ≤ length w → Values kind word src n m → Valid t c m k w
+        → Valid t c m (stores kind n k src dst) (stores word n w src dst)
+    unfolding stores
+    keep zero src dst m k w lk lw h v = v
+    keep (suc n) src dst m k w lk lw h v =
+        keep n (src + 1) (dst + 1) m (set k dst (kind k src)) (set w dst (word w src)) (rw length-set (omega arith)) (rw length-set (omega arith))
+        (λ at m' k' w' from to more. h at m' k' w' (omega arith) (omega arith) more)
+        (put-keep m dst (kind k src) (word w src) k w (omega arith) (omega arith) (h src m k w (omega arith) (omega arith) (omega arith) v) v)
+
+  nils : (src n m : ℕ) → Values (λ held at. 0) (λ held at. 0) src n m
+  nils src n m at m' k w from to more v = nil-fits
+
+  fill-grow :
       (n m : ℕ) (k w : List ℕ) → m + n ≤ length k → m + n ≤ length w → Valid t c m k w
       → Valid t c (m + n) (fillOf n k m 0) (fillOf n w m 0)
-  unfolding fillOf
-  fill-grow zero m k w lk lw v = let e : m + 0 ≡ m = omega arith in rw e v
-  fill-grow (suc n) m k w lk lw v =
-      let e : m + suc n ≡ m + 1 + n = omega arith in
-      rw e
-      (fill-grow n (m + 1) (set k m 0) (set w m 0) (rw length-set (omega arith)) (rw length-set (omega arith))
-      (put-grow m 0 0 k w (omega arith) (omega arith) nil-fits v))
-
-  -- stores of values anywhere
-  pub copy-keep :
-      (n src dst m : ℕ) (k w : List ℕ) → m ≤ length k → m ≤ length w → src + n ≤ m → Valid t c m k w
-      → Valid t c m (copyWithin n k src dst) (copyWithin n w src dst)
-  unfolding copyWithin
-  copy-keep zero src dst m k w lk lw h v = v
-  copy-keep (suc n) src dst m k w lk lw h v =
-      copy-keep n (src + 1) (dst + 1) m (set k dst (getD k src 0)) (set w dst (getD w src 0)) (rw length-set (omega arith))
-      (rw length-set (omega arith)) (omega arith)
-      (put-keep m dst (getD k src 0) (getD w src 0) k w (omega arith) (omega arith) (valid-at m src k w v (omega arith)) v)
+  fill-grow n m k w lk lw v = grow _ _ n m m k w lk lw (nils m n m) v
 
   pub fill-keep :
       (n dst m : ℕ) (k w : List ℕ) → m ≤ length k → m ≤ length w → Valid t c m k w
       → Valid t c m (fillOf n k dst 0) (fillOf n w dst 0)
-  unfolding fillOf
-  fill-keep zero dst m k w lk lw v = v
-  fill-keep (suc n) dst m k w lk lw v =
-      fill-keep n (dst + 1) m (set k dst 0) (set w dst 0) (rw length-set (omega arith)) (rw length-set (omega arith))
-      (put-keep m dst 0 0 k w (omega arith) (omega arith) nil-fits v)
+  fill-keep n dst m k w lk lw v = keep _ _ n dst dst m k w lk lw (nils dst n m) v
+
+  copies : (src n m : ℕ) → src + n ≤ m → Values (λ held at. getD held at 0) (λ held at. getD held at 0) src n m
+  copies src n m h at m' k w from to more v = valid-at m' at k w v (omega arith)
 
   -- ---- windows
 
@@ -163,8 +142,8 @@ module _ (t c : List ℕ) where
         let l2 : f ≤ size = fewer-right n size in
         let e : m + size ≡ m + f + (size - f) = omega arith in
         rw e
-        (fill-grow (size - f) (m + f) (copyWithin f k src m) (copyWithin f w src m) (rw length-within (omega arith))
-        (rw length-within (omega arith)) (copy-grow f src m k w (omega arith) (omega arith) (omega arith) v))
+        (fill-grow (size - f) (m + f) (copyWithin f k src m) (copyWithin f w src m) (rw length-stores (omega arith)) (rw length-stores (omega arith))
+        (grow _ _ f src m k w (omega arith) (omega arith) (copies src f m (omega arith)) v))
 
     -- values handed to a place anywhere
     pub window-keep :
@@ -173,8 +152,8 @@ module _ (t c : List ℕ) where
     window-keep dst lk lw =
         let f : ℕ = fewer n size in
         let l1 : f ≤ n = fewer-left n size in
-        fill-keep (size - f) (dst + f) m (copyWithin f k src dst) (copyWithin f w src dst) (rw length-within lk)
-        (rw length-within lw) (copy-keep f src dst m k w lk lw (omega arith) v)
+        fill-keep (size - f) (dst + f) m (copyWithin f k src dst) (copyWithin f w src dst) (rw length-stores lk)
+        (rw length-stores lw) (keep _ _ f src dst m k w lk lw (copies src f m (omega arith)) v)
 
   -- the first window, filled from other lists
   pub window-first :
@@ -189,5 +168,6 @@ module _ (t c : List ℕ) where
       let z : 0 + f ≡ f = omega arith in
       let e : f + (size - f) ≡ size = omega arith in
       rw e at
-      (fill-grow (size - f) f (copyFrom f fk 0 k 0) (copyFrom f fw 0 w 0) (rw length-from (omega arith)) (rw length-from (omega arith))
-      (rw z at (from-grow f fk fw 0 0 k w (omega arith) (omega arith) (λ j l. h j (omega arith)) (valid-none k w))))
+      (fill-grow (size - f) f (copyFrom f fk 0 k 0) (copyFrom f fw 0 w 0) (rw length-stores (omega arith)) (rw length-stores (omega arith))
+      (rw z at
+      (grow (λ held at. getD fk at 0) (λ held at. getD fw at 0) f 0 0 k w (omega arith) (omega arith) (λ at m' k' w' from to more v. h at (omega arith)) (valid-none k w))))

@@ -21,7 +21,7 @@ use Rattle.storage.specs.Cursor.{past}
 use Rattle.storage.specs.declared.Tops.{Tops}
 use Rattle.storage.proofs.Places.{at-first, at-within}
 use Rattle.storage.proofs.Runs.{Runs, last, next, Told, opened, word, text, instruction, ended, told-as}
-use Rattle.storage.proofs.Lies.{Stands, all, lies-rest}
+use Rattle.storage.proofs.Lies.{lies-rest, tops, Lie, lies-opened}
 use Rattle.storage.proofs.Seen.{Constant, end-seen, word-seen, text-seen}
 use Rattle.storage.proofs.Reading.{reads-frames}
 use Rattle.storage.proofs.Six.{readable}
@@ -43,20 +43,13 @@ use Rattle.machine.specs.Results.{named, returnedOf, isString, spanOf}
 use Rattle.machine.specs.declared.Span.{Span}
 use Rattle.machine.specs.declared.Span.the-variants.{At, Refused}
 
--- p entries, c constants, k instructions and x bytes of texts are passed
-abbrev tops : ℕ → ℕ → ℕ → ℕ → Tops
-tops p c k x = record { entries = 1 + 4 * p; codes = k; consts = c; texts = x }
-
 -- ---- constant i of an image of q prototypes is a string
 
 module _ (S : Storage) (q i : ℕ) (string : getD (S .kinds) i 0 ≡ 4) (there : i < firstConstant (S .table) q) where
   abbrev Inside : Type 0
   Inside = (getD (S .words) i 0 / 65536 + getD (S .words) i 0 % 65536 ≤ length (S .texts)) × (getD (S .words) i 0 % 65536 ≤ 64)
 
-  abbrev Lie : ℕ → ℕ → ℕ → ℕ → List F → Type 0
-  Lie p c k x fs = Stands (tops p c k x) (all (tops p c k x) fs) S
-
-  text-here : (p c k x : ℕ) (b : List ℕ) (fs : List F) → Lie p c k x (str b ∷ fs) → x ≤ length (S .texts) → x + length b ≤ length (S .texts)
+  text-here : (p c k x : ℕ) (b : List ℕ) (fs : List F) → Lie S p c k x (str b ∷ fs) → x ≤ length (S .texts) → x + length b ≤ length (S .texts)
   unfolding textsAll textsOf
   text-here p c k x b fs l h = at-within (S .texts) x b (at-first (S .texts) x b _ (l .texts)) h
 
@@ -78,13 +71,12 @@ module _ (S : Storage) (q i : ℕ) (string : getD (S .kinds) i 0 ≡ 4) (there :
 
   inside-next :
       {st u : Counts} {f : F} {fs : List F} → Told st f (On u) → Runs u q fs → Said f
-      → ((c k x : ℕ) → c ≤ i → x ≤ length (S .texts) → Lie (u .protos) c k x fs → Inside) → (c k x : ℕ) → c ≤ i → x ≤ length (S .texts)
-      → Lie (st .protos) c k x (f ∷ fs)
+      → ((c k x : ℕ) → c ≤ i → x ≤ length (S .texts) → Lie S (u .protos) c k x fs → Inside) → (c k x : ℕ) → c ≤ i → x ≤ length (S .texts)
+      → Lie S (st .protos) c k x (f ∷ fs)
       → Inside
   unfolding past shape
   inside-next {st} (opened {r} {p} a) h y ih c k x ci xt l =
-      let four : 1 + 4 * st .protos + 4 ≡ 1 + 4 * (st .protos + 1) = omega arith in
-      ih c k x ci xt (rw four at (lies-rest (tops (st .protos) c k x) (opens r p) _ S l))
+      ih c k x ci xt (lies-opened S (st .protos) c k x r p _ l)
   inside-next {st} (word {k = tag} {w} a b) h y ih c k x ci xt l =
       let t = tops (st .protos) c k x in
       at-or-on c ci (no-string t tag w (word-seen t S h tag w l) (y .0))
@@ -97,13 +89,13 @@ module _ (S : Storage) (q i : ℕ) (string : getD (S .kinds) i 0 ≡ 4) (there :
   inside-next {st} (instruction {w} a) h y ih c k x ci xt l = ih c (k + 1) x ci xt (lies-rest (tops (st .protos) c k x) (code w) _ S l)
 
   inside-last :
-      {st : Counts} {f : F} → Told st f Done → st .protos ≡ q → (c k x : ℕ) → c ≤ i → Lie (st .protos) c k x (f ∷ []) → Inside
+      {st : Counts} {f : F} → Told st f Done → st .protos ≡ q → (c k x : ℕ) → c ≤ i → Lie S (st .protos) c k x (f ∷ []) → Inside
   inside-last {st} (ended {m} e) g c k x ci l =
       let s = rw g at (end-seen (tops (st .protos) c k x) S m [] l .consts) in
       absurd (omega arith)
 
   inside-from :
-      {st : Counts} {fs : List F} → Runs st q fs → AllSaid fs → (c k x : ℕ) → c ≤ i → x ≤ length (S .texts) → Lie (st .protos) c k x fs → Inside
+      {st : Counts} {fs : List F} → Runs st q fs → AllSaid fs → (c k x : ℕ) → c ≤ i → x ≤ length (S .texts) → Lie S (st .protos) c k x fs → Inside
   inside-from (last r e) ys c k x ci xt l = inside-last (told-as r) e c k x ci l
   inside-from (next r h) (more y ys) c k x ci xt l =
       inside-next (told-as r) h y (λ c k x ci xt l. inside-from h ys c k x ci xt l) c k x ci xt l

@@ -12,6 +12,7 @@ use Rattle.image.specs.declared.Frame.the-variants.{Open, Const, Str, Code, End
 use Rattle.image.specs.declared.Step.the-variants.{On, Done}
 use Rattle.image.proofs.Said.{Said}
 use Rattle.storage.specs.Layout.{Storage, textsOf, textsAll}
+use Rattle.storage.specs.Fields.{entryPlace}
 use Rattle.storage.specs.Cursor.{nextText, nextConst, nextCode, nextEntry, nextFrame}
 use Rattle.storage.specs.declared.Tops.{Tops}
 use Rattle.storage.proofs.Places.{at-first, at-within}
@@ -104,11 +105,11 @@ module _ (t : Tops) (S : Storage) where
     head-next (text {l = b} a d) r y l = text-says b (text-seen t S r b l) (y .0) (text-room b _ l)
     head-next (instruction a) r y l = code-says _ (instruction-seen t S r _ (omega arith) l) y
 
-    head-last : {st : Counts} {f : F} → t .entries ≡ 1 + 4 * st .protos → Told st f Done → Stands t (all t (f ∷ [])) S → nextIn t S ≡ shape f
+    head-last : {st : Counts} {f : F} → t .entries ≡ entryPlace (st .protos) → Told st f Done → Stands t (all t (f ∷ [])) S → nextIn t S ≡ shape f
     unfolding shape
     head-last four (ended e) l = end-says _ (omega arith) (end-seen t S _ _ l)
 
-    pub heads : {st : Counts} {q : ℕ} {f : F} {fs : List F} → t .entries ≡ 1 + 4 * st .protos → Runs st q (f ∷ fs) → Said f
+    pub heads : {st : Counts} {q : ℕ} {f : F} {fs : List F} → t .entries ≡ entryPlace (st .protos) → Runs st q (f ∷ fs) → Said f
         → Stands t (all t (f ∷ fs)) S → nextIn t S ≡ shape f
     heads four (last r e) y l = head-last four (told-as r) l
     heads four (next r h) y l = head-next (told-as r) h y l

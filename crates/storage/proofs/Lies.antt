@@ -1,11 +1,13 @@
 -- Frames that lie in a storage from a place on: the first one, and the rest from the next place on. Assumes nothing.
 use Prim.Native.Nat.{ℕ, _+_, _≤_}
+use native.Mathlib.Omega.{arith}
 use native.Mathlib.Nat.{add-zero}
 use mathlib.Core.Path.{_≡_, refl, sym, subst}
 use mathlib.Core.List.{List, [], _∷_}
 use lib.ListN.{length}
 use Rattle.image.specs.Frames.{F, opens, const, str, code, ends, bad, shape}
 use Rattle.storage.specs.Layout.{Storage, storage, entryOf, codesOf, kindsOf, wordsOf, textsOf, entriesAll, codesAll, kindsAll, wordsAll, textsAll}
+use Rattle.storage.specs.Fields.{entryPlace}
 use Rattle.storage.specs.Cursor.{past}
 use Rattle.storage.specs.declared.Tops.{Tops}
 use Rattle.storage.proofs.Places.{At, at-join, at-rest, at-within}
@@ -92,3 +94,20 @@ module _ (t : Tops) (f : F) (fs : List F) (S : Storage) where
             words = at-join (S .words) (t .consts) (wordsOf (t .texts) f) _ (h .words) (rw (words-kinds (t .texts) f) (l .words));
             texts = at-join (S .texts) (t .texts) (textsOf f) _ (h .texts) (l .texts);
           }
+
+-- ---- by what is passed
+
+-- p entries, c constants, k instructions and x bytes of texts are passed
+abbrev pub tops : ℕ → ℕ → ℕ → ℕ → Tops
+tops p c k x = record { entries = entryPlace p; codes = k; consts = c; texts = x }
+
+-- frames that lie in S from there on
+abbrev pub Lie : Storage → ℕ → ℕ → ℕ → ℕ → List F → Type 0
+Lie S p c k x fs = Stands (tops p c k x) (all (tops p c k x) fs) S
+
+-- behind an a0 one entry more is passed
+pub lies-opened : (S : Storage) (p c k x r u : ℕ) (fs : List F) → Lie S p c k x (opens r u ∷ fs) → Lie S (p + 1) c k x fs
+unfolding past shape
+lies-opened S p c k x r u fs l =
+    let e : entryPlace p + 4 ≡ entryPlace (p + 1) = omega arith in
+    rw e at (lies-rest (tops p c k x) (opens r u) fs S l)

@@ -13,18 +13,14 @@ use Rattle.image.specs.declared.Counts.{Counts}
 use Rattle.image.specs.declared.Step.the-variants.{On, Done}
 use Rattle.image.proofs.Said.{Said, AllSaid, more}
 use Rattle.storage.specs.Layout.{Storage, textsOf, textsAll}
-use Rattle.storage.specs.Fields.{prototypesOf, firstConstant, firstInstruction}
+use Rattle.storage.specs.Fields.{prototypesOf, entryPlace, firstConstant, firstInstruction}
 use Rattle.storage.specs.Stored.{constFrame, constFrames, codeFrames, protoFrames, protosFrames, framesIn}
 use Rattle.storage.specs.Cursor.{past}
 use Rattle.storage.specs.declared.Tops.{Tops}
 use Rattle.storage.proofs.Places.{at-first, at-cell}
 use Rattle.storage.proofs.Runs.{Runs, last, next, Told, opened, word, text, instruction, ended, told-as, runs-count}
-use Rattle.storage.proofs.Lies.{Stands, all, lies-rest}
+use Rattle.storage.proofs.Lies.{Stands, all, lies-rest, tops, Lie, lies-opened}
 use Rattle.storage.proofs.Seen.{Entry, Constant, open-seen, end-seen, word-seen, text-seen, instruction-seen, entry-of}
-
--- p entries, c constants, k instructions and x bytes of texts are passed
-abbrev tops : ℕ → ℕ → ℕ → ℕ → Tops
-tops p c k x = record { entries = 1 + 4 * p; codes = k; consts = c; texts = x }
 
 -- where the first frame is
 abbrev pub front : Tops
@@ -58,7 +54,7 @@ module _ (S : Storage) (q : ℕ) where
   protos-more : (r u p c k x : ℕ) → p < q → Entry (tops p c k x) S r u → restIn S q p c k ≡ opens r u ∷ restIn S q (p + 1) c k
   unfolding constFrames codeFrames protosFrames protoFrames
   protos-more r u p c k x h e =
-      rw (one-more p q h, add-zero (1 + 4 * p), e .registers, e .parameters, e .consts, e .codes, sub-self c, sub-self k)
+      rw (one-more p q h, add-zero (entryPlace p), e .registers, e .parameters, e .consts, e .codes, sub-self c, sub-self k)
       (ap (λ (z : List F). opens r u ∷ z)
       (regroup (constFrames S (firstConstant (S .table) (p + 1) - c) c) (codeFrames S (firstInstruction (S .table) (p + 1) - k) k)
       (protosFrames S (q - (p + 1)) (p + 1)) (ends q ∷ [])))
@@ -77,22 +73,17 @@ module _ (S : Storage) (q : ℕ) where
 
   -- ---- one frame, and the rest after it
 
-  abbrev Lie : ℕ → ℕ → ℕ → ℕ → List F → Type 0
-  Lie p c k x fs = Stands (tops p c k x) (all (tops p c k x) fs) S
-
-  text-here : (p c k x : ℕ) (b : List ℕ) (fs : List F) → Lie p c k x (str b ∷ fs) → take (length b) (drop x (S .texts)) ≡ b
+  text-here : (p c k x : ℕ) (b : List ℕ) (fs : List F) → Lie S p c k x (str b ∷ fs) → take (length b) (drop x (S .texts)) ≡ b
   unfolding textsAll textsOf
   text-here p c k x b fs l = at-first (S .texts) x b _ (l .texts)
 
   frames-next : {st u : Counts} {f : F} {fs : List F} → Told st f (On u) → Runs u q fs → Said f
-      → ((c k x : ℕ) → Lie (u .protos) c k x fs → fs ≡ restIn S q (u .protos) c k)
-      → (c k x : ℕ) → Lie (st .protos) c k x (f ∷ fs) → f ∷ fs ≡ restIn S q (st .protos) c k
+      → ((c k x : ℕ) → Lie S (u .protos) c k x fs → fs ≡ restIn S q (u .protos) c k)
+      → (c k x : ℕ) → Lie S (st .protos) c k x (f ∷ fs) → f ∷ fs ≡ restIn S q (st .protos) c k
   unfolding past shape
   frames-next {st} (opened {r} {p} a) h y ih c k x l =
       let t = tops (st .protos) c k x in
-      let four : 1 + 4 * st .protos + 4 ≡ 1 + 4 * (st .protos + 1) = omega arith in
-      let g = rw four at (lies-rest t (opens r p) _ S l) in
-      ap (λ (z : List F). opens r p ∷ z) (ih c k x g)
+      ap (λ (z : List F). opens r p ∷ z) (ih c k x (lies-opened S (st .protos) c k x r p _ l))
       ∙ sym (protos-more r p (st .protos) c k x (omega (arith, runs-count h)) (open-seen t S r p _ l))
   frames-next {st} (word {k = tag} {w} a b) h y ih c k x l =
       let t = tops (st .protos) c k x in
@@ -111,7 +102,7 @@ module _ (S : Storage) (q : ℕ) where
       ap₂ (λ (f : F) (z : List F). f ∷ z) (ap code (sym (e .word))) (ih c (k + 1) x (lies-rest t (code w) _ S l))
       ∙ sym (codes-more (st .protos) c k (e .consts) (e .codes))
 
-  frames-last : {st : Counts} {f : F} → Told st f Done → st .protos ≡ q → (c k x : ℕ) → Lie (st .protos) c k x (f ∷ [])
+  frames-last : {st : Counts} {f : F} → Told st f Done → st .protos ≡ q → (c k x : ℕ) → Lie S (st .protos) c k x (f ∷ [])
       → f ∷ [] ≡ restIn S q (st .protos) c k
   unfolding constFrames codeFrames protosFrames
   frames-last {st} (ended {m} e) g c k x l =
@@ -119,7 +110,7 @@ module _ (S : Storage) (q : ℕ) where
       let z : m ≡ q = e ∙ g in
       rw (s .consts, s .codes, sub-self c, sub-self k, g, sub-self q, z)
 
-  frames-from : {st : Counts} {fs : List F} → Runs st q fs → AllSaid fs → (c k x : ℕ) → Lie (st .protos) c k x fs
+  frames-from : {st : Counts} {fs : List F} → Runs st q fs → AllSaid fs → (c k x : ℕ) → Lie S (st .protos) c k x fs
       → fs ≡ restIn S q (st .protos) c k
   frames-from (last r e) ys c k x l = frames-last (told-as r) e c k x l
   frames-from (next r h) (more y ys) c k x l = frames-next (told-as r) h y (λ c k x l. frames-from h ys c k x l) c k x l

@@ -15,7 +15,7 @@ use Rattle.image.proofs.HexLaws.{AllBytes}
 use Rattle.image.proofs.Said.{AllSaid, none, more}
 use Rattle.image.proofs.Sizes.{size-nil}
 use Rattle.storage.specs.Layout.{Storage}
-use Rattle.storage.specs.Fields.{prototypesOf}
+use Rattle.storage.specs.Fields.{prototypesOf, entryPlace}
 use Rattle.storage.specs.Cursor.{sizeOf, past}
 use Rattle.storage.specs.declared.Tops.{Tops}
 use Rattle.storage.proofs.Sizes.{size-first, size-said}
@@ -41,7 +41,7 @@ Whole n S = Rest front start 0 n S
 pub record Walk (t : Tops) (st : Counts) (b : ℕ) (S : Storage) : Type 0 where
   pub back : (n : ℕ) → Rest t st b n S → Whole n S
   pub forth : (n : ℕ) → Whole n S → Rest t st b n S
-  pub entries : t .entries ≡ 1 + 4 * st .protos
+  pub entries : t .entries ≡ entryPlace (st .protos)
   pub few : st .protos ≤ 32
   pub inside : t .texts ≤ length (S .texts)
   pub texts : 2 * t .texts ≤ b
@@ -67,8 +67,8 @@ walk-over w h n r = let g = w .forth n r in omega (arith, g .size, g .short)
 
 -- ---- what a step keeps
 
-kept : {st u : Counts} {f : F} (t : Tops) → Told st f (On u) → t .entries ≡ 1 + 4 * st .protos → st .protos ≤ 32
-    → (past t (shape f) .entries ≡ 1 + 4 * u .protos) × (u .protos ≤ 32)
+kept : {st u : Counts} {f : F} (t : Tops) → Told st f (On u) → t .entries ≡ entryPlace (st .protos) → st .protos ≤ 32
+    → (past t (shape f) .entries ≡ entryPlace (u .protos)) × (u .protos ≤ 32)
 unfolding past shape
 kept t (opened a) e h = (omega arith, omega arith)
 kept t (word a b) e h = (e, h)

@@ -8,9 +8,13 @@ use mathlib.Core.Bool.{cond}
 abbrev pub prototypesOf : List ℕ → ℕ
 prototypesOf table = getD table 0 0
 
--- field i of prototype q's entry; entry q = number of prototypes is the closing one
+-- where prototype q's entry begins; entry q = number of prototypes is the closing one
+abbrev pub entryPlace : ℕ → ℕ
+entryPlace q = 1 + 4 * q
+
+-- field i of prototype q's entry
 abbrev pub field : ℕ → List ℕ → ℕ → ℕ
-field i table q = getD table (1 + 4 * q + i) 0
+field i table q = getD table (entryPlace q + i) 0
 
 abbrev pub registersOf : List ℕ → ℕ → ℕ
 registersOf table q = field 0 table q

@@ -1,12 +1,12 @@
-// Replays the outside vectors on standard input through the crate `constant`: what Lua 5.3 and the Rust original
-// answer, operator by operator. tools/vectors/README.md has the format. A line is written for each operator.
+// Replays the outside vectors on standard input through the crates `constant` and `comparison`: what Lua 5.3 and the
+// Rust original answer, operator by operator. tools/vectors/README.md has the format. A line is written for each operator.
 //
 // The values of a list lie in two slices: in `bytes` a kind for each of 256 values, then the strings' bytes; in `words`
 // a word for each of them, then for each string where its bytes lie. So the number of a string's constant is 256 more
 // than the value's own, and the two slices serve as `texts` and `const_words` too.
+use comparison::Compared;
 use constant::Answer;
 use constant::BinaryOperatorError;
-use constant::Compared;
 use constant::Value;
 use libc::STDIN_FILENO;
 use libc::STDOUT_FILENO;
@@ -183,10 +183,10 @@ fn of_compared(c: Compared) -> Outcome {
 // before it.
 fn evaluate(operation: u64, a: Value, b: Value, c: Value, bytes: &[u8], words: &[u64]) -> Outcome {
     match operation {
-        0x13 => of_bool(constant::past_end(a, b, c)),
-        0x1b => of_bool(constant::is_equal(b, c, words, bytes)),
-        0x1c => of_compared(constant::less_than(b, c, words, bytes)),
-        0x1d => of_compared(constant::less_equal(b, c, words, bytes)),
+        0x13 => of_bool(comparison::past_end(a, b, c)),
+        0x1b => of_bool(comparison::is_equal(b, c, words, bytes)),
+        0x1c => of_compared(comparison::less_than(b, c, words, bytes)),
+        0x1d => of_compared(comparison::less_equal(b, c, words, bytes)),
         0x1f => of_answer(constant::negate(c)),
         0x20 => of_answer(constant::bitwise_not(c)),
         0x21 => of_answer(constant::add(b, c)),

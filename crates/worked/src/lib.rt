@@ -99,7 +99,7 @@ pub fn example(n: u64) -> Told
         )),
         5 => Told::Operator(constant::add(Value::Integer(9223372036854775807), Value::Integer(1))),
         6 => Told::Number(number::from_integer(9007199254740993)),
-        7 => Told::Equal(constant::is_equal(
+        7 => Told::Equal(comparison::is_equal(
             Value::Integer(9007199254740993),
             Value::Number(9007199254740992.0),
             &[0],

@@ -1,0 +1,2 @@
+-- Equality and order of the machine's values.
+pub mod Comparison
