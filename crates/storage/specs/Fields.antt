@@ -12,6 +12,10 @@ prototypesOf table = getD table 0 0
 abbrev pub entryPlace : ℕ → ℕ
 entryPlace q = 1 + 4 * q
 
+-- how many words there are, with the entries of 32 prototypes and the closing one
+abbrev pub tableSlots : ℕ
+tableSlots = entryPlace 33
+
 -- field i of prototype q's entry
 abbrev pub field : ℕ → List ℕ → ℕ → ℕ
 field i table q = getD table (entryPlace q + i) 0

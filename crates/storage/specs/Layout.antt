@@ -10,6 +10,7 @@ use mathlib.Core.List.{List, [], _∷_, _++_}
 use lib.ListN.{length, drop, replicate}
 use lib.Dec.{leb}
 use Rattle.slices.specs.Lent.{Slice, atCall, atReturn}
+use Rattle.storage.specs.Fields.{tableSlots}
 use Rattle.image.specs.Frames.{F, opens, const, str, code, ends, bad}
 
 pub record Storage : Type 0 where
@@ -114,7 +115,7 @@ laidIn xs S =
 -- "sizes are published constants, none above 1,048,576": an image of 65,536 bytes has at most 32 prototypes, 5,041 instructions, 32 times 256 constants
 -- (and the room of one prototype's constants behind them) and 32,768 bytes of strings
 abbrev pub tableSize : ℕ
-tableSize = 133
+tableSize = tableSlots
 
 abbrev pub codeSize : ℕ
 codeSize = 5041
