@@ -81,7 +81,7 @@ enum dm_number {
 
     DM_BAD_ARGUMENT = 20,       /* start: more than 8, or one not nil, boolean, integer or number; dm_text: no string */
 
-    DM_ERROR_ADD = 30,          /* Lua errors: an operand is unfit */
+    DM_ERROR_ADD = 30,          /* Lua errors: an operand is unfit; for 30 to 42 a string that reads as a figure is not */
     DM_ERROR_SUBTRACT = 31,
     DM_ERROR_MULTIPLY = 32,
     DM_ERROR_FLOAT_DIVIDE = 33,

@@ -252,6 +252,10 @@ impl Error for StartError {
 }
 
 /// What a rule did wrong. The answer's place says which instruction did it, and the state is as it was before it.
+///
+/// 30 to 44 say that an operand is unfit for its operator. Arithmetic and bit operations (30 to 42) take a string where it
+/// reads as an integer or a number, as `"7"`, `" 12 "`, `"0x0A"` and `"2.5"` do; comparisons (43, 44) and the controls of
+/// a numeric `for` take none for a number.
 #[derive(Clone, Copy, Debug, PartialEq, Eq, Hash)]
 #[repr(u8)]
 pub enum LuaError {
@@ -331,24 +335,42 @@ impl LuaError {
 impl fmt::Display for LuaError {
     fn fmt(&self, f: &mut fmt::Formatter<'_>) -> fmt::Result {
         f.write_str(match self {
-            LuaError::Add => "+, or a for loop: an operand is not a number",
-            LuaError::Subtract => "-, or the start of a for loop: an operand is not a number",
-            LuaError::Multiply => "*: an operand is not a number",
-            LuaError::FloatDivide => "/: an operand is not a number",
-            LuaError::FloorDivide => "//: an operand is not a number, or integers are divided by 0",
-            LuaError::Modulo => "%: an operand is not a number, or integers are divided by 0",
-            LuaError::UnaryNegate => "- with one operand: it is not a number",
-            LuaError::BitAnd => "&: an operand is not an integer, nor a number that equals one",
-            LuaError::BitOr => "|: an operand is not an integer, nor a number that equals one",
+            LuaError::Add => {
+                "+: an operand is not a number, nor a string that reads as one; or a for loop: a control is not a number"
+            }
+            LuaError::Subtract => {
+                "-: an operand is not a number, nor a string that reads as one; or the start of a for loop: a control is not a number"
+            }
+            LuaError::Multiply => "*: an operand is not a number, nor a string that reads as one",
+            LuaError::FloatDivide => {
+                "/: an operand is not a number, nor a string that reads as one"
+            }
+            LuaError::FloorDivide => {
+                "//: an operand is not a number, nor a string that reads as one, or integers are divided by 0"
+            }
+            LuaError::Modulo => {
+                "%: an operand is not a number, nor a string that reads as one, or integers are divided by 0"
+            }
+            LuaError::UnaryNegate => {
+                "- with one operand: it is not a number, nor a string that reads as one"
+            }
+            LuaError::BitAnd => {
+                "&: an operand is not an integer, nor a number that equals one, nor a string that reads as either"
+            }
+            LuaError::BitOr => {
+                "|: an operand is not an integer, nor a number that equals one, nor a string that reads as either"
+            }
             LuaError::BitXor => {
-                "~ with two operands: one is not an integer, nor a number that equals one"
+                "~ with two operands: one is not an integer, nor a number that equals one, nor a string that reads as either"
             }
             LuaError::BitNot => {
-                "~ with one operand: it is not an integer, nor a number that equals one"
+                "~ with one operand: it is not an integer, nor a number that equals one, nor a string that reads as either"
             }
-            LuaError::ShiftLeft => "<<: an operand is not an integer, nor a number that equals one",
+            LuaError::ShiftLeft => {
+                "<<: an operand is not an integer, nor a number that equals one, nor a string that reads as either"
+            }
             LuaError::ShiftRight => {
-                ">>: an operand is not an integer, nor a number that equals one"
+                ">>: an operand is not an integer, nor a number that equals one, nor a string that reads as either"
             }
             LuaError::LessThan => "< or >: the operands are neither two numbers nor two strings",
             LuaError::LessEqual => "<= or >=: the operands are neither two numbers nor two strings",

@@ -361,7 +361,7 @@ fn texts_of_lua_errors() {
     assert_eq!(texts.len(), LuaError::ALL.len(), "no two say the same");
     assert_eq!(
         LuaError::Modulo.to_string(),
-        "%: an operand is not a number, or integers are divided by 0"
+        "%: an operand is not a number, nor a string that reads as one, or integers are divided by 0"
     );
     let answer = Answer {
         outcome: Outcome::Failed(LuaError::NotAFunction),

@@ -1,9 +1,9 @@
-//! Document 01's session and its example W13, the rules in `examples`, and every kind of value.
+//! Document 01's session and its example W13, the rules in `examples`, every kind of value, and figures that arrive as text.
 
 mod common;
 
 use common::{image, integer, program, rules, text, BUDGET};
-use deletion_machine::{Answer, Image, Machine, Outcome, Place, Value};
+use deletion_machine::{Answer, Image, LuaError, Machine, Outcome, Place, Value};
 
 #[test]
 fn the_session() {
@@ -151,6 +151,45 @@ fn values_of_every_kind() {
     // the values live as long as the image, not the machine
     drop(machine);
     assert_eq!(values[5], Value::String(b"\x00\xffa"));
+}
+
+#[test]
+fn years_that_arrive_as_text() {
+    // register 0 gets the text, register 1 the days of so many years
+    let rule = |years: &[u8]| {
+        let digits: String = years.iter().map(|byte| format!("{byte:02x}")).collect();
+        image(&[
+            "a00200",
+            &format!("b004{digits}"),
+            &integer(365),
+            "c00100000000",
+            "c02302010001",
+            "c00c00000200",
+            "e001",
+        ])
+    };
+    for (years, days) in [
+        (&b"7"[..], Value::Integer(2555)),
+        (b" 12\t", Value::Integer(4380)),
+        (b"0x0A", Value::Integer(3650)),
+        (b"2.5", Value::Number(912.5)),
+        (b"-1e1", Value::Number(-3650.0)),
+    ] {
+        let image = rule(years);
+        let mut machine = Machine::start(&image, &[]).unwrap();
+        assert_eq!(machine.run(BUDGET).outcome, Outcome::Finished, "{years:?}");
+        assert_eq!(
+            machine.values(),
+            [Value::String(years), days],
+            "the text stays"
+        );
+    }
+    for years in [&b""[..], b"seven", b"7 years", b"1e23", b"0x"] {
+        let image = rule(years);
+        let mut machine = Machine::start(&image, &[]).unwrap();
+        let outcome = Outcome::Failed(LuaError::Multiply);
+        assert_eq!(machine.run(BUDGET).outcome, outcome, "{years:?}");
+    }
 }
 
 #[test]

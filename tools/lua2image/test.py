@@ -1,5 +1,5 @@
 #!/usr/bin/env python3
-"""Tests of lua2image, from outside: what it writes, and how it ends.
+"""Tests of lua2image, from outside: what it writes, how it ends, and of years as text also what the image answers.
 
     python3 tools/lua2image/test.py        needs luac5.3 (Debian's package lua5.3), and no network"""
 import os
@@ -12,6 +12,7 @@ import unittest
 HERE = os.path.dirname(os.path.abspath(__file__))
 COMMAND = os.path.join(HERE, 'lua2image')
 EXAMPLES = os.path.join(HERE, '..', '..', 'examples')
+SESSION = os.path.join(HERE, '..', 'oracle', 'session')
 
 # Document 01's operations in the order of their numbers.
 NAMES = dict(zip([*range(0, 4), 10, 12, *range(14, 20), *range(27, 39), *range(40, 45)],
@@ -138,6 +139,34 @@ prototype 1, the function at line 2: registers 3, parameters 2
 1:5     line 3     LoadBool        r2 = true
 1:6     line 3     Return          r2
 1:7     line 4     Return          no value
+'''
+
+# luac folds no string: what reads them as figures is the machine.
+YEARS = '''local years = " 12 "
+return years * 365, -"7", 7 // "2", "2.5" + 1, "0x0A" | 0, years
+'''
+YEARS_LISTING = '''\
+prototype 0, the main program: registers 7, parameters 0
+0:0     line 1     LoadConstant    r0 = " 12 "
+0:1     line 2     Mul             r1 = r0 * 365
+0:2     line 2     LoadConstant    r2 = "7"
+0:3     line 2     Minus           r2 = -r2
+0:4     line 2     IDiv            r3 = 7 // "2"
+0:5     line 2     Add             r4 = "2.5" + 1
+0:6     line 2     BitOr           r5 = "0x0A" | 0
+0:7     line 2     Move            r6 = r0
+0:8     line 2     Return          r1..r6
+0:9     line 2     Return          no value
+'''
+# 4380, -7, 3, 3.5, 10 and the text.
+YEARS_ANSWER = '''\
+f00000000009000008
+b002000000000000111c
+b002fffffffffffffff9
+b0020000000000000003
+b003400c000000000000
+b002000000000000000a
+b00420313220
 '''
 
 
@@ -284,6 +313,15 @@ class Listing(Test):
             '0:0      operation 99    bytes 63 00 01 02 03, refused with 10\n'
             '0:1      Move            bytes 00 00 00 01 00, refused with 12\n'
             '0:2      Return          no value\n'), ''))
+
+
+class Figures(Test):
+    def test_years_as_text(self):
+        rule, image = self.file('rule.lua', YEARS), self.file('rule.image')
+        self.assertEqual(lua2image('--list', rule, '-o', image), (0, YEARS_LISTING, ''))
+        with open(image, 'rb') as file:
+            answer = subprocess.run([sys.executable, SESSION], stdin=file, stdout=subprocess.PIPE, check=True, universal_newlines=True).stdout
+        self.assertEqual(answer, YEARS_ANSWER)
 
 
 if __name__ == '__main__':

@@ -1,8 +1,9 @@
 """The Lua programs of crates/runs: CASES, made by family from a generator of numbers of our own.
 
-Left out, since document 01 says otherwise than Lua 5.3 (docs/DIFFERENCES.md): Mod of numbers whose remainder is zero under an unlike sign, or whose
-sum rounds; strings in arithmetic that Lua would convert; loops with a NaN or a step of zero; loops of numbers with an integer limit that a number
-doesn't hold. An error's line has just one instruction that could raise it."""
+Left out, since the documents say otherwise than Lua 5.3 (docs/DIFFERENCES.md): Mod of numbers whose remainder is zero under an unlike sign, or whose
+sum rounds; arithmetic in which a string reads as an integer and no operand is a number, of which Lua 5.3 makes floats; strings outside the set that
+Lua converts; loops with a string, a NaN or a step of zero; loops of numbers with an integer limit that a number doesn't hold. An error's line has
+just one instruction that could raise it."""
 import math
 from fractions import Fraction
 
@@ -774,6 +775,69 @@ local c = a == 0 or u < 1
 return a, b, c''')
 
 
+# ---- figures that arrive as text: the answers are numbers, or those of bit operations, where Lua 5.3 does as the manual says
+
+FIGURES = {
+    'division': 'local y = "10"\nreturn y / 4, 10 / "4", y / "4", " 0x10\\t" / 3, "1" / "0", -1 / "0", "0" / 0 == 0, y',
+    'numbers': '''
+local y = "1.5"
+local a, b, c = y * 2, 2 + y, y - "0.25"
+local d, e = "10" + 0.5, 1.0 - "10"
+local f, g, h = -y, -"-0.0", -"0.0"
+return a, b, c, d, e, f, g, h, y''',
+    'whole quotients and remainders': '''
+local a = "7.5" // 2
+local b = 7 // "2.0"
+local c = 5 // "0.0"
+local d = 5.0 // "0"
+local e = "7.5" % 2
+local f = -7.5 % "2"
+local g = 5.0 % "0"
+return a, b, c, d, e, f, g''',
+    'forms': '''
+return "5." + 0, ".5" + 0, "5.e1" + 0, ".5E+1" + 0, "1e3" + 0, "+1.50" + 0, "-2.5e-1" + 0, "0e99999" + 0, "-0.000e-400" + 0,
+  "\\9\\10\\11\\12\\13 2.5\\9\\10\\11\\12\\13 " + 0, "1e0000000000000000022" + 0''',
+    'bounds': '''
+return "1e22" + 0, "0.1e23" + 0, "1e-22" + 0, "123456789012345e22" + 0, "999999999999999e-22" + 0, "0.1" + 0, "0.3" - 0.1,
+  "10000000000000000000" + 0, "-10000000000000000000" + 0, "1000000000000000000000000e-10" + 0''',
+    'bits': '''
+local y = "12"
+local a, b, c = y & 10, 12 & "0xA", "0XfF" | "3.0"
+local d, e, f = "5" ~ "1", "1" << "4", " -1 " >> 1
+local g, h = ~"0", ~"3.0"
+return a, b, c, d, e, f, g, h, "1e3" & 8, "-0.0" | 0, 1 << y, y''',
+    'integers at their bounds': '''
+return "9223372036854775807" | 0, "-9223372036854775808" | 0, "0xffffffffffffffff" | 0, "-0xffffffffffffffff" | 0, "0x10000000000000001" | 0,
+  "-0x8000000000000000" | 0, "000000000000000000000000000000000000000000000000000000000007" | 0''',
+    'years and a half': '''
+local term, grace = "7.5", " .25 "
+local kept, years = 0, 0
+for age = 0, 12 do
+  if age <= term + grace then
+    kept = kept | 1 << age
+    years = years + age * "0.5"
+  end
+end
+return kept, years, term, term == "7.5", term < grace, "10" < "9"''',
+}
+# A text of no figure on the left, on the right or on both sides, by the operator.
+NO_FIGURES = {'+': '', '-': '0x', '*': '1e', '/': '1 2', '//': '- 7', '%': '.', '&': ' ', '|': '+', '~': '7 years', '<<': '1_000', '>>': '0xg'}
+
+
+def figures():
+    for name, source in FIGURES.items():
+        case('figures: ' + name, source)
+    for turn, (operator, text) in enumerate(NO_FIGURES.items()):
+        left, right = [('u', '7'), ('"7"', 'u'), ('u', 'u')][turn % 3]
+        case("figures: no figure, '%s' %s" % (text, operator), ['local u = "%s"' % text, 'local w = %s %s %s' % (left, operator, right), 'return w'])
+    for turn, operator in enumerate(NO_FIGURES):
+        if operator in BITWISE:
+            text = ['1.5', '1e19', '-1e-1'][turn % 3]
+            case("figures: '%s' %s" % (text, operator), ['local u = "%s"' % text, 'local w = 1 %s u' % operator, 'return w'])
+    for sign, text in (('-', '1e+'), ('~', '2.5')):
+        case("figures: %s of '%s'" % ('minus' if sign == '-' else sign, text), ['local u = "%s"' % text, 'local w = %su' % sign, 'return w'])
+
+
 # ---- algorithms
 
 ALGORITHMS = {
@@ -1219,5 +1283,6 @@ recursion()
 windows()
 strings(26)
 errors()
+figures()
 algorithms()
 shapes()

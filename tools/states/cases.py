@@ -4,8 +4,9 @@
     python3 tools/states/cases.py              writes crates/states/stdin and crates/states/stdout
     python3 tools/states/cases.py --check      writes nothing, and fails where one of the two is stale
 
-Every answer is written by hand beside its case or follows from a rule that is; tools/oracle, which was written from document 01 and shares
-nothing with the proved machine, must agree with it, or the script stops. What is left comes from the oracle alone."""
+Every answer is written by hand beside its case or follows from a rule that is; tools/oracle, which was written from the documents and shares
+nothing with the proved machine, must agree with it, or the script stops. What is left comes from the oracle alone, but for the figures, where it
+is written by hand too."""
 import os
 import sys
 
@@ -153,6 +154,11 @@ class Case:
 
     def run(self, budget, *expected, lend=ALL):
         return self.answered('!', '!%s:%08x' % (lend, budget), expected or None, lend, lambda m: m.run(budget))
+
+    def holds(self, *values, first=0):
+        """Registers from `first` on, written by hand: nothing is written to the list."""
+        got = [(self.machine.kinds[at], self.machine.words[at]) for at in range(first, first + len(values))]
+        assert got == list(values), (self.name, got, values)
 
     def stands(self, *expected, lend=ALL):
         return self.answered('?', '?%s' % lend, expected, lend, lambda m: m.run(0))
@@ -548,6 +554,172 @@ def loops():
             case.put(*controls, i(77))
             case.run(1, 70, 1, 0, place)
             case.run(2, 0, 1, 0, place)
+
+
+# ---- figures that arrive as text
+
+# Left, right and what is stored, or None where the operator raises its error. A text is a string of the image.
+FIGURES = {
+    'Add': [
+        (b'10', i(1), i(11)), (i(1), b'10', i(11)), (b'10', b'1', i(11)), (b'1.5', i(1), f(2.5)), (f(0.5), b'2', f(2.5)), (b'0x10', b'2.5', f(18.5)),
+        (b' 12\t', b'\n-2\r', i(10)), (b'9223372036854775807', i(1), i(SMALLEST)), (b'-9223372036854775808', b'-1', i(LARGEST)),
+        (b'1e3', i(0), f(1000.0)), (b'10000000000000000000', i(0), f(1e19)), (b'9223372036854775808', i(0), None),
+        (i(0), b'9223372036854775808', None), (b'10', b'ten', None), (b'ten', b'10', None), (b'10', NIL, None), (TRUE, b'10', None),
+        (b'10', fn(1), None)],
+    'Sub': [
+        (b'10', i(1), i(9)), (i(1), b'10', i(-9)), (b'10', b'1', i(9)), (b'5', b'0.5', f(4.5)), (f(0.5), b'5', f(-4.5)),
+        (b'-9223372036854775808', b'1', i(LARGEST)), (b'1', b'1e23', None), (b'1e23', b'1', None), (b'', i(1), None), (i(1), b'', None)],
+    'Mul': [
+        (b'7', i(6), i(42)), (i(6), b'7', i(42)), (b'6', b'7', i(42)), (b'1.5', i(2), f(3.0)), (b'-0', b'5', i(0)), (b'-0.0', b'5', f(-0.0)),
+        (b'0x8000000000000000', b'-1', i(SMALLEST)), (b'7 ', b' 0X6', i(42)), (b'7', b'6 6', None), (b'- 7', b'6', None), (b'7', b'', None)],
+    'Div': [
+        (b'10', i(4), f(2.5)), (i(10), b'4', f(2.5)), (b'10', b'4', f(2.5)), (b'1', b'0', f(INF)), (i(-1), b'0', f(-INF)), (b'0', b'0', NAN),
+        (b'1', b'-0.0', f(-INF)), (b'1', b'0x', None), (b'0x', b'1', None), (b'.', i(1), None)],
+    'IDiv': [
+        (b'7', i(2), i(3)), (i(7), b'2', i(3)), (b'7', b'2', i(3)), (b'-7', i(2), i(-4)), (i(7), b'-2', i(-4)),
+        (b'-9223372036854775808', b'-1', i(SMALLEST)), (b'7.0', b'2', f(3.0)), (i(5), b'0', None), (b'5', i(0), None), (b'5', b'0', None),
+        (b'5', b'-0', None), (b'5', b'0x0', None), (b'5', b' 00 ', None), (f(5.0), b'0', f(INF)), (b'5.0', i(0), f(INF)), (i(5), b'0.0', f(INF)),
+        (b'5', f(0.0), f(INF)), (i(-5), b'0e9', f(-INF)), (i(0), b'seven', None), (b'seven', i(0), None)],
+    'Mod': [
+        (b'7', i(-2), i(-1)), (i(7), b'-2', i(-1)), (b'7', b'2', i(1)), (b'-9223372036854775808', b'-1', i(0)), (b'5.5', i(2), f(1.5)),
+        (i(7), b'2.0', f(1.0)), (i(5), b'0', None), (b'5', i(0), None), (b'5', b'0', None), (b'5', b'+0x00', None), (f(5.0), b'0', NAN),
+        (i(5), b'0.0', NAN), (b'5', f(0.0), NAN), (b'5', b'.0', NAN), (b'5', b'.', None), (b'..', b'5', None)],
+    'BitAnd': [
+        (b'12', i(10), i(8)), (i(12), b'10', i(8)), (b'0xc', b'10', i(8)), (b'3.0', i(1), i(1)), (b'1e3', i(8), i(8)), (i(-1), b'-0.0', i(0)),
+        (b'0xffffffffffffffff', i(-1), i(-1)), (b'1.5', i(1), None), (i(1), b'1.5', None), (b'1e19', i(1), None),
+        (b'9223372036854775808', i(1), None), (b'10', f(0.5), None), (b'10', b'0x1p4', None)],
+    'BitOr': [
+        (b'3.0', i(0), i(3)), (i(0), b'3.0', i(3)), (b'0x10', i(0), i(16)), (b'8', b'1', i(9)), (b'-0xffffffffffffffff', i(0), i(1)),
+        (b'0x10000000000000001', i(0), i(1)), (b'-9223372036854775808', i(0), i(SMALLEST)), (b'-922337203685477.5808e4', i(0), None),
+        (b'1.5', i(0), None), (i(0), b'1e-1', None), (b'8', b'one', None)],
+    'BitXor': [
+        (b'5', i(1), i(4)), (i(1), b'5', i(4)), (b'5', b'5.0', i(0)), (b'50e-1', f(1.0), i(4)), (b'1.5', i(1), None), (i(1), b'1.5', None),
+        (b'5', b'5!', None)],
+    'ShiftLeft': [
+        (b'1', i(4), i(16)), (i(1), b'4', i(16)), (b'1', b'4.0', i(16)), (b'2', b'-1', i(1)), (b'1', b'64', i(0)), (b'1.5', i(1), None),
+        (i(1), b'1.5', None), (b'1', b'1x', None)],
+    'ShiftRight': [
+        (b'16', i(4), i(1)), (i(16), b'4', i(1)), (b'16.0', b'4', i(1)), (i(-1), b'1.0', i(LARGEST)), (b'-1', b'0x3f', i(1)), (b'0.5', i(1), None),
+        (i(1), b'0.5', None), (b'x1', b'1', None)],
+}
+FIGURES_OF_ONE = {
+    'Minus': [
+        (b'10', i(-10)), (b' 12 ', i(-12)), (b'+7', i(-7)), (b'0x0A', i(-10)), (b'0', i(0)), (b'-0', i(0)), (b'0.0', f(-0.0)), (b'-0.0', f(0.0)),
+        (b'1.50', f(-1.5)), (b'5.', f(-5.0)), (b'.5', f(-0.5)), (b'5.e1', f(-50.0)), (b'.5E+1', f(-5.0)), (b'2.5e-1', f(-0.25)), (b'0.1', f(-0.1)),
+        (b'-9223372036854775808', i(SMALLEST)), (b'9223372036854775807', i(-LARGEST)), (b'-10000000000000000000', f(1e19)),
+        (b'0x8000000000000000', i(SMALLEST)), (b'1e22', f(-1e22)), (b'0.1e23', f(-1e22)), (b'1e-22', f(-1e-22)),
+        (b'1e0000000000000000022', f(-1e22)), (b'0e99999', f(-0.0)), (b'123456789012345e22', f(-123456789012345e22)),
+        (b'000000000000000000000000000000000000000000000000000000000000007', i(-7)), (b'\t\n\x0b\x0c\r 7\t\n\x0b\x0c\r ', i(-7)),
+        (b'0' * 63 + b'9', i(-9)), (b'', None), (b' ', None), (b'-', None), (b'+', None), (b'0x', None), (b'.', None), (b'.e1', None), (b'1e', None),
+        (b'1e+', None), (b'- 1', None), (b'+-1', None), (b'1 2', None), (b'1\x00', None), (b'\x001', None), (b'\x081', None), (b'\x0e1', None),
+        (b'1\xa0', None), (b'0x1.8', None), (b'0x1p4', None), (b'0xg', None), (b'0b1', None), (b'1_000', None), (b'1,5', None), (b'inf', None),
+        (b'nan', None), (b'1e23', None), (b'10e22', None), (b'1e-23', None), (b'1e99999999999999999999', None), (b'1234567890123456.5', None),
+        (b'0.1234567890123456', None), (b'9223372036854775808', None), (b'-9223372036854775809', None)],
+    'BitNot': [
+        (b'0', i(-1)), (b'10', i(-11)), (b' 3.0 ', i(-4)), (b'0xffffffffffffffff', i(0)), (b'-1', i(0)), (b'1e3', i(-1001)), (b'1.5', None),
+        (b'1e19', None), (b'', None), (b'x', None), (b'9223372036854775808', None)],
+}
+
+
+class Texts:
+    """The strings of a case, each of them once, as constants."""
+
+    def __init__(self, rows):
+        self.all = sorted({value for row in rows for value in row if isinstance(value, bytes)})
+
+    def __call__(self, value):
+        return s(self.all.index(value)) if isinstance(value, bytes) else value
+
+
+def figures():
+    for name, rows in FIGURES.items():
+        texts = Texts(rows)
+        case = Case('%s: strings that read as figures, and strings that do not' % name, [
+            proto(3, 0, texts.all, [op(name, 2, 0, 1), RETURN]), proto(1, 0, [], [RETURN])])
+        case.clear()
+        for left, right, result in rows:
+            case.at((0, 0))
+            case.put(texts(left), texts(right), fn(0))
+            case.run(1, *((NUMBER[name], 1, 0, 0) if result is None else (70, 1, 0, 1)))
+            # Only the result is stored; the operands keep their strings.
+            case.holds(texts(left), texts(right), fn(0) if result is None else result)
+    for name, rows in FIGURES_OF_ONE.items():
+        texts = Texts(rows)
+        case = Case('%s: strings that read as figures, and strings that do not' % name, [proto(2, 0, texts.all, [op(name, 1, 0), RETURN])])
+        case.clear()
+        for text, result in rows:
+            case.at((0, 0))
+            case.put(texts(text), TRUE)
+            case.run(1, *((NUMBER[name], 1, 0, 0) if result is None else (70, 1, 0, 1)))
+            case.holds(texts(text), TRUE if result is None else result)
+    for name in (*FIGURES, *FIGURES_OF_ONE):
+        two = name in FIGURES
+        case = Case('%s: the result of a string into its own register' % name, [proto(2, 0, [b'6', b'six'], [op(name, 0, 0, *[0] * two), RETURN])])
+        case.clear()
+        case.at((0, 0))
+        case.put(s(1))
+        case.run(1, NUMBER[name], 1, 0, 0)
+        case.holds(s(1))
+        case.at((0, 0))
+        case.put(s(0))
+        case.run(1, 70, 1, 0, 1)
+        case.holds({'Add': i(12), 'Sub': i(0), 'Mul': i(36), 'Div': f(1.0), 'IDiv': i(1), 'Mod': i(0), 'BitAnd': i(6), 'BitOr': i(6), 'BitXor': i(0),
+                    'ShiftLeft': i(384), 'ShiftRight': i(0), 'Minus': i(-6), 'BitNot': i(-7)}[name])
+    case = Case('figures: constants on either side, and a string of another prototype', [
+        proto(4, 0, [b'7', b' 0x0A ', b'2.5', b'seven', i(3)], [
+            op('Add', 0, 0, 4, flags=3), op('Mul', 1, 4, 1, flags=3), op('Sub', 2, 1, 0, flags=3), op('Closure', 3, 1), op('Call', 3, 0, 1),
+            op('IDiv', 3, 3, 2, flags=2), op('Add', 0, 3, 0, flags=1), RETURN]),
+        proto(1, 0, [b'-12'], [op('LoadConstant', 0, 0), op('Return', 0, 1)])])
+    case.start(0)
+    case.run(3, 70, 3, 0, 3)
+    case.holds(i(10), i(30), i(3))
+    case.run(4, 70, 4, 0, 5)
+    case.holds(s(5), first=3)
+    case.run(1, 70, 1, 0, 6)
+    case.holds(f(-5.0), first=3)
+    case.run(5, 30, 1, 0, 6)
+    case.run(5, 30, 0, 0, 6)
+    case = Case('figures: a string stays a string where nothing is worked out', [
+        proto(4, 0, [b'10', i(1)], [
+            op('LoadConstant', 0, 0), op('Add', 1, 0, 1, flags=2), op('Move', 2, 0), op('Not', 3, 0), op('Eq', 0, 0, 1), op('Return', 0, 4),
+            op('Return', 0, 0)])])
+    case.start(0)
+    case.run(9, 0, 6, 0, 6)
+    case.holds(s(0), i(11), s(0), FALSE)
+    # A comparison takes strings as they are: with numbers they have no order and are not equal.
+    texts = Texts([(b'1', b'1.0', b'10', b'9', b'0x1')])
+    for name, number, pairs in (
+            ('Eq', None, [
+                (b'1', i(1), False), (i(1), b'1', False), (b'1', b'1.0', False), (b'1', b'0x1', False), (b'1', b'1', True), (f(1.0), b'1.0', False)]),
+            ('Less', 43, [
+                (b'1', i(2), None), (i(0), b'1', None), (b'1', f(2.0), None), (b'10', b'9', True), (b'9', b'10', False), (b'1', b'1.0', True)]),
+            ('LessEq', 44, [
+                (b'1', i(1), None), (i(1), b'1', None), (f(0.0), b'1', None), (b'10', b'9', True), (b'9', b'10', False), (b'1', b'1', True)])):
+        case = Case('%s: figures are not read' % name, [proto(2, 0, texts.all, [op(name, 1, 0, 1), RETURN, RETURN])])
+        case.clear()
+        for left, right, holds in pairs:
+            case.at((0, 0))
+            case.put(texts(left), texts(right))
+            case.run(1, *((number, 1, 0, 0) if holds is None else (70, 1, 0, 2 if holds else 1)))
+    # Nor does a loop: Prep subtracts and NumericForLoop adds, but not what a string reads as.
+    for name, number in (('NumericForPrep', 31), ('NumericForLoop', 30)):
+        case = Case('%s: figures are not read' % name, [proto(4, 0, [b'1', b'3.0', b'0x1'], [RETURN, op(name, 0, 1), RETURN, op('Return', 0, 4)])])
+        case.clear()
+        for text in (s(0), s(1), s(2)):
+            for which in range(3):
+                controls = [i(1), i(3), i(1)]
+                controls[which] = text
+                case.at((0, 1))
+                case.put(*controls, i(77))
+                if name == 'NumericForPrep' and which == 1:
+                    case.run(1, 70, 1, 0, 3)
+                    case.holds(i(0), text, i(1), i(77))
+                else:
+                    case.run(1, number, 1, 0, 1)
+                    case.holds(*controls, i(77))
+        case.at((0, 1))
+        case.put(s(0), s(0), s(0), i(77))
+        case.run(1, number, 1, 0, 1)
 
 
 # ---- calls
@@ -1038,7 +1210,7 @@ def unfit():
 
 def main():
     check = checking(__doc__)
-    for group in (starts, binaries, unaries, comparisons, tests, loads, loops, calls, budgets, faults, unfit):
+    for group in (starts, binaries, unaries, comparisons, tests, loads, loops, figures, calls, budgets, faults, unfit):
         group()
     keep('states', ''.join(LIST), ''.join(ANSWERS), check)
     print('%d cases, %d starts and runs' % (sum(part[0] == '#' for part in ANSWERS), RUNS[0]))

@@ -2,10 +2,9 @@
 
 Most are those of document 01's section "Where the Rust misleads"; docs/DIFFERENCES.md has them all. A rule holds just
 where its cause is at work, so that a difference without a rule is one that nobody knows of. Operators have the names of
-reference.py, and its values: (kind, word), or (4, bytes).
+reference.py, and its values: (kind, word), or (4, bytes). What the Rust makes of a string where an operator reads it as a
+figure is in ../whole/texts.py.
 """
-import re
-
 import reference
 from reference import INTEGER, NUMBER, STRING, signed
 
@@ -101,18 +100,6 @@ def index_overflows(name, operands):
     return not -2**63 <= signed(operands[0][1]) + signed(operands[2][1]) < 2**63
 
 
-def reads_past_end(name, operands):
-    if not name.startswith(("bitwise", "shift")):
-        return False
-    return any(kind == STRING and re.fullmatch(b"[-+]?0?", word) for kind, word in operands)
-
-
-def converts(name, operands):
-    """Strings are compared with strings as they are; everything else that takes numbers takes strings for them."""
-    compared = name == "is_equal" or name in ("less_than", "less_equal") and kinds(operands) == [STRING, STRING]
-    return STRING in kinds(operands) and not compared
-
-
 RULES = [
     (truncates, "`floor_divide` uses `wrapping_div`: it rounds toward zero"),
     (has_no_quotient, "`modulo` panics at W4"),
@@ -123,6 +110,4 @@ RULES = [
     (turns_to_numbers, "an integer loop with a limit that is a number turns to floats"),
     (rounds_limit, "a loop of numbers rounds an integer limit first"),
     (index_overflows, "an integer loop's index + step overflows"),
-    (reads_past_end, "`read_hex_integer` reads past the end of \"\" and of \"0\""),
-    (converts, "a string is converted to a number"),
 ]

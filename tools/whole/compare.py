@@ -16,6 +16,7 @@ from collections import Counter, namedtuple
 sys.dont_write_bytecode = True
 HERE = os.path.dirname(os.path.realpath(__file__))
 sys.path[1:1] = [os.path.join(HERE, '..'), os.path.join(HERE, '..', 'vectors')]
+import texts
 from causes import RULES, shown_vector
 from generate import MANY, images
 from oracle.answers import DONE, RUNNING, TOO_DEEP, TOO_WIDE
@@ -27,10 +28,10 @@ from oracle.values import FUNCTION, NUMBER, ONE_NAN, STRING, double
 
 BUILDS = ('checked', 'released')
 BUDGET, LONG = 1000000, 3000
-LUA, SMALL, SHORT = 'real Lua', 'small', 'short'
+LUA, SMALL, SHORT, FIGURES = 'real Lua', 'small', 'short', 'figures'
 RANDOM = 'rust whole '
-# The bytes that the kept images take of crates/runs/stdin, which the program there reads into 524,288.
-ROOM = 40000
+# The bytes that the kept images take of crates/runs/stdin, which the program there reads into 524,288; those of figures take their own.
+ROOM, ROOM_OF_FIGURES = 40000, 2000
 
 # Operations by the names that reference.py and causes.py have for them.
 NAMES = {
@@ -143,7 +144,7 @@ def play(image, most):
         if count == most:
             return None
         before, depth, name = oracle.now(), oracle.machine.depth, OPERATIONS[oracle.instruction().operation]
-        kinds = tuple(kind for kind, _ in oracle.operands()) if image.family in (SMALL, SHORT) else ()
+        kinds = tuple(kind for kind, _ in oracle.operands()) if image.family in (SMALL, SHORT, FIGURES) else ()
         flags = oracle.instruction().flags
         oracle.step()
         count += 1
@@ -177,7 +178,7 @@ def reports_add(step):
 
 LIMITS = "document 01's limits of activations and registers (51, 52): nothing in the files that are here has them"
 REPORTS = 'the operation Sub reports Add'
-CAUSES = [LIMITS, REPORTS] + [text for _, text in RULES]
+CAUSES = [LIMITS, REPORTS] + [text for _, text in RULES] + texts.CAUSES
 
 
 def cause(image, step):
@@ -185,9 +186,14 @@ def cause(image, step):
         return LIMITS
     if reports_add(step):
         return REPORTS
-    for holds, text in RULES:
-        if step.name in NAMES and holds(NAMES[step.name], step.operands):
-            return text
+    if step.name in NAMES:
+        name = NAMES[step.name]
+        why = texts.cause(name, step.operands)
+        if why:
+            return why
+        for holds, text in RULES:
+            if holds(name, texts.figured(name, step.operands)):
+                return text
     sys.exit('no rule: %s, %s at %s on %s: %s, the Rust %s' % (image.name, step.name, step.place, step.operands, step.wanted, step.got))
 
 
@@ -266,12 +272,14 @@ def picked(found, shows, room):
 
 
 def chosen(found, runs):
-    """Small and short images of those that agree. Returned values show what was done before, an error only itself and its place."""
+    """Small and short images of those that agree, and some of figures. Returned values show what was done before, an error only itself and its
+    place."""
     def returned(family):
         return {i: run.features for i, run in enumerate(runs) if found[i].family == family and ' b0' in run.answer}
 
     raised = {i: {feature for feature in run.features if feature[-1] == 'raised'} for i, run in enumerate(runs) if found[i].family == SMALL}
     kept = picked(found, returned(SHORT), ROOM // 2) + picked(found, returned(SMALL), ROOM // 4) + picked(found, raised, ROOM // 4)
+    kept += picked(found, returned(FIGURES), ROOM_OF_FIGURES)
     return ''.join('%s= %s\n' % (listed([found[i]]), without_count(runs[i].answer)) for i in sorted(kept))
 
 

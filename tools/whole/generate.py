@@ -6,6 +6,7 @@
     tame         statements as a compiler makes them (loops, choices, calls), on operands on which the Rust and document 01 agree
     short        a few of those
     wild         the same on any operands, with calls of any function and writes to any register
+    figures      operators of arithmetic and bits on strings that read as figures, and on some that don't
 
 What runs long or raises an error at once is as good as any other image here; compare.py leaves out what runs too long."""
 import os
@@ -14,11 +15,11 @@ import struct
 from oracle.answers import DONE
 from oracle.dice import Dice
 from oracle.image import Prototype, payload
-from oracle.rules import COMPARISONS, OPERANDS, OPERATIONS, check, ends, instruction, next_places
+from oracle.rules import BINARY, COMPARISONS, OPERANDS, OPERATIONS, check, ends, instruction, next_places
 from oracle.values import BOOLEAN, INTEGER, NIL, NUMBER, STRING
 
 VALUES = os.path.join(os.path.dirname(os.path.realpath(__file__)), '..', 'vectors', 'values.txt')
-MANY = {'small': 2000, 'short': 1000, 'tame': 1500, 'wild': 1500}
+MANY = {'small': 2000, 'short': 1000, 'tame': 1500, 'wild': 1500, 'figures': 1000}
 
 
 # ---- constants
@@ -61,6 +62,14 @@ EDGES = {
     'n': PLAIN['n'] + of_kind(NUMBER, edges()),
     's': PLAIN['s'] + [string(data) for data in [b'0', b'1', b'10', b'-3', b'+7', b'0x10', b'1e2', b' 7', b'0.5', b'inf', b'9223372036854775808']],
 }
+# Texts of integers, of other numbers, and those that the Rust reads otherwise or that are no figures.
+WHOLE = [b'1', b'7', b'10', b'-3', b'+12', b'0x10', b'0XfF', b'-0xA', b'007', b'3.0', b'1e3', b'-2.50e1', b'9223372036854775807',
+         b'-9223372036854775808']
+FRACTIONS = [b'0.5', b'2.5', b'-7.25', b'.1', b'+5.', b'1.5E+2', b'-0.0', b'0e99', b'1e-22', b'1e22', b'0.1e23', b'123456789012345e22',
+             b'999999999999999e-22', b'10000000000000000000', b'-20000000000000000000', b'0.3', b'1e0022', b'3.141592653589']
+PARTING = [b'', b'0', b'-', b'+0', b' 7', b'2.5\t', b'\n0x10 ', b'0x', b'-0X', b'0xffffffffffffffff', b'-0x8000000000000000', b'0x200000000000018',
+           b'0x1p4', b'0x.8', b'1e23', b'1e-23', b'9223372036854775808', b'1234567890123456.5', b'inf', b'-nan', b'1e999', b'.', b'1e', b'1 2',
+           b'seven', b'1\0']
 # Counts of shifts and divisors on which the Rust is right.
 SHIFTS = [integer(n) for n in (0, 1, 2, 7, 31, 63)]
 DIVISORS = [integer(n) for n in (1, 2, 3, 7, 10, 1000)]
@@ -378,8 +387,27 @@ def of_any(dice):
     return found
 
 
+# ---- strings that read as figures
+
+def of_figures(dice):
+    """One prototype: operands are loaded, then operators work on them and on constants; the results stand behind them."""
+    operands, results = 2 + dice.below(3), 1 + dice.below(4)
+    texts = [WHOLE, FRACTIONS, PARTING][min(dice.below(5), 2)] if dice.chance(2) else WHOLE + FRACTIONS
+    constants = [dice.pick([string(dice.pick(texts)), string(dice.pick(texts)), dice.pick(PLAIN['i']), dice.pick(PLAIN['n'])])
+                 for _ in range(operands)]
+    code = [instruction('LoadConstant', r, 0, r) for r in range(operands)]
+    for r in range(operands, operands + results):
+        name = dice.pick([*BINARY, 'Div', 'Minus', 'BitNot'])
+        if name in BINARY:
+            code.append(instruction(name, r, dice.below(operands), dice.below(operands), dice.below(4)))
+        else:
+            code.append(instruction(name, r, dice.below(operands)))
+    code.append(instruction('Return', 0, operands + results))
+    return [Prototype(operands + results, 0, constants, code)]
+
+
 def made(family, dice):
-    return of_any(dice) if family == 'small' else of_statements(dice, family)
+    return of_any(dice) if family == 'small' else of_figures(dice) if family == 'figures' else of_statements(dice, family)
 
 
 def images():

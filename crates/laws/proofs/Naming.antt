@@ -74,12 +74,12 @@ module _ (i : Instruction) where
   decided-tells b (compared.Decided d) = tt
   decided-tells b (compared.Raises e) = tt
 
-  unary-tells : (u : Unary) (r k w : ℕ) → Tells i (unaryEffect u r k w)
+  unary-tells : (words texts : List ℕ) (u : Unary) (r k w : ℕ) → Tells i (unaryEffect words texts u r k w)
   unfolding unaryEffect
-  unary-tells unary.Move r k w = tt
-  unary-tells unary.Not r k w = stored-tells r _ _
-  unary-tells unary.Minus r k w = stored-tells r _ _
-  unary-tells unary.BitNot r k w = stored-tells r _ _
+  unary-tells words texts unary.Move r k w = tt
+  unary-tells words texts unary.Not r k w = stored-tells r _ _
+  unary-tells words texts unary.Minus r k w = stored-tells r _ _
+  unary-tells words texts unary.BitNot r k w = stored-tells r _ _
 
   compare-tells : (w x : List ℕ) (c : Compare) (b : Bool) (l r : Value) → Tells i (compareEffect w x c b l r)
   unfolding compareEffect skipIf
@@ -104,7 +104,7 @@ module _ (i : Instruction) where
 
 pub effect-tells : (g : Sight) (i : Instruction) → Good i → Tells i (effectOf g i)
 unfolding effectOf skipIf prepEffect
-effect-tells g (instruction.Unary u d s) n = unary-tells (instruction.Unary u d s) u d _ _
+effect-tells g (instruction.Unary u d s) n = unary-tells (instruction.Unary u d s) (g .constWords) (g .texts) u d _ _
 effect-tells g (instruction.LoadConstant d c) n = tt
 effect-tells g (instruction.LoadBool d b to) n = tt
 effect-tells g (instruction.LoadNil d m) n = tt

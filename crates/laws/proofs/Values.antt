@@ -23,6 +23,7 @@ use Rattle.checker.specs.declared.Compare.{Compare}
 use Rattle.checker.specs.declared.Compare.the-variants as compare
 use Rattle.checker.specs.declared.Instruction.{Instruction}
 use Rattle.checker.specs.declared.Instruction.the-variants as instruction
+use Rattle.figures.specs.Figured.{figuredOf}
 use Rattle.effects.specs.Effects.{Sight, sight, operandValue, registerValue, skipIf, decided, unaryEffect, binaryAnswer, compareEffect, testSetEffect, effectOf}
 use Rattle.fitness.specs.Fit.{decodedAt, valueFits, registerFits}
 use Rattle.reach.specs.Within.{Within}
@@ -45,14 +46,18 @@ function-fits table kinds q h = rw (lt-ltb q (prototypesOf table) h)
 -- ---- effects
 
 module _ (S : Storage) where
+  -- what an operator takes a value for
+  abbrev figured : Value → Value
+  figured v = figuredOf (S .words) (S .texts) v
+
   -- of a kind and a word that fit
   module _ (kind word : ℕ) (fits : valueFits (S .table) (S .kinds) kind word ≡ true) where
-    unary-holds : (u : Unary) (dest : ℕ) → Holds S (unaryEffect u dest kind word)
+    unary-holds : (u : Unary) (dest : ℕ) → Holds S (unaryEffect (S .words) (S .texts) u dest kind word)
     unfolding unaryEffect
     unary-holds unary.Move dest = fits
     unary-holds unary.Not dest = stored-holds S dest _ (Is (notOf (valueOf kind word))) tt
-    unary-holds unary.Minus dest = stored-holds S dest _ (negateOf (valueOf kind word)) (negate-plain (valueOf kind word))
-    unary-holds unary.BitNot dest = stored-holds S dest _ (bitNotOf (valueOf kind word)) (bit-not-plain (valueOf kind word))
+    unary-holds unary.Minus dest = stored-holds S dest _ (negateOf (figured (valueOf kind word))) (negate-plain (figured (valueOf kind word)))
+    unary-holds unary.BitNot dest = stored-holds S dest _ (bitNotOf (figured (valueOf kind word))) (bit-not-plain (figured (valueOf kind word)))
 
     test-set-holds : (dest : ℕ) (byte : Bool) → Holds S (testSetEffect dest byte kind word)
     unfolding testSetEffect
@@ -104,8 +109,8 @@ module _ (S : Storage) where
     within-holds p (instruction.Compare c byte l r) h =
         compare-holds (S .words) (S .texts) c byte (operandValue here l) (operandValue here r)
     within-holds p (instruction.Binary o dest l r) h =
-        stored-holds S dest _ (binaryAnswer o (operandValue here l) (operandValue here r))
-        (binary-plain o (operandValue here l) (operandValue here r))
+        stored-holds S dest _ (binaryAnswer o (figured (operandValue here l)) (figured (operandValue here r)))
+        (binary-plain o (figured (operandValue here l)) (figured (operandValue here r)))
     within-holds p (instruction.Bad n) h = tt
 
 -- an instruction of this image, of a machine whose live registers hold values of it

@@ -6,6 +6,7 @@
 //! of lua_vectors.lua; `p` is a panic. `oracle loops FOLDER` writes NumericForLoop on every index, limit and step that
 //! values.txt marks: the new index, and whether it is past the end. `oracle facts` writes what single inputs give.
 //! `oracle images` and `oracle steps` run whole images and single steps from standard input: images.rs says how.
+//! `oracle figures` writes what `read_integer` and `read_float` make of each line of standard input, a string in hexadecimal.
 #![allow(dead_code)]
 
 mod constant;
@@ -236,6 +237,45 @@ fn facts() {
         fact(&format!("~\"{}\"", digits), &|| shown_value(raw_ops::bitwise_not(text(digits))));
     }
     fact("-\"0\"", &|| shown_value(raw_ops::negate(text("0"))));
+    for (left, sign, op, right) in [
+        ("10", "+", raw_ops::add as Binary, 1),
+        ("10", "/", raw_ops::float_divide, 4),
+        ("0", "//", raw_ops::floor_divide, 0),
+        ("1", "//", raw_ops::floor_divide, 0),
+        ("0", "%", raw_ops::modulo, 0),
+        (" 0", "+", raw_ops::add, 0),
+        ("0 ", "+", raw_ops::add, 0),
+        (" 0", "|", raw_ops::bitwise_or, 0),
+        ("0x8000000000000000", "+", raw_ops::add, 0),
+        ("0x8000000000000000", "|", raw_ops::bitwise_or, 0),
+        ("0xffffffffffffffff", "|", raw_ops::bitwise_or, 0),
+        ("0x200000000000010", "/", raw_ops::float_divide, 1),
+        ("0x200000000000011", "/", raw_ops::float_divide, 1),
+        ("-9223372036854775808", "+", raw_ops::add, 0),
+        ("-9223372036854775808", "|", raw_ops::bitwise_or, 0),
+        ("9223372036854775808", "+", raw_ops::add, 0),
+        ("9223372036854775808", "|", raw_ops::bitwise_or, 0),
+        ("1e23", "+", raw_ops::add, 0),
+        ("1e-23", "+", raw_ops::add, 0),
+        ("0.1000000000000001", "+", raw_ops::add, 0),
+        ("0x.8", "+", raw_ops::add, 0),
+        ("0x0p0", "|", raw_ops::bitwise_or, 0),
+        ("inf", "+", raw_ops::add, 0),
+        ("nan", "+", raw_ops::add, 0),
+        ("0x", "|", raw_ops::bitwise_or, 0),
+        ("-", "|", raw_ops::bitwise_or, 0),
+        ("0x", "+", raw_ops::add, 0),
+        ("", "+", raw_ops::add, 0),
+        ("3.0", "|", raw_ops::bitwise_or, 0),
+        ("1.5", "|", raw_ops::bitwise_or, 0),
+    ] {
+        fact(&format!("\"{}\" {} {}", left, sign, right), &|| shown_value(op(text(left), integer(right))));
+    }
+    for digits in ["-9223372036854775808", "-9223372036854775807", "0x8000000000000000", " 1"] {
+        fact(&format!("read_integer(\"{}\")", digits), &|| {
+            format!("{:?}", compiler::lexer::read_integer(digits.as_bytes()))
+        });
+    }
     fact("\"0\" < 0", &|| shown_bool(raw_ops::less_than(text("0"), integer(0))));
     fact("\"0\" <= 0", &|| shown_bool(raw_ops::less_equal(text("0"), integer(0))));
     fact("\"1\" < 2", &|| shown_bool(raw_ops::less_than(text("1"), integer(2))));
@@ -274,6 +314,16 @@ fn facts() {
     fact("VarCount::constant(255)", &|| format!("{:?}", VarCount::constant(255)));
 }
 
+fn figures() {
+    use compiler::lexer::{read_float, read_integer};
+    for line in std::io::stdin().lines() {
+        let text = bytes_of(&line.unwrap());
+        let integer = or_panic(|| shown_value(read_integer(&text).map(Value::Integer)));
+        let number = or_panic(|| shown_value(read_float(&text).map(Value::Number)));
+        println!("{} {}", integer, number);
+    }
+}
+
 fn main() {
     std::panic::set_hook(Box::new(|_| {}));
     let args: Vec<Text> = std::env::args().collect();
@@ -281,6 +331,7 @@ fn main() {
         "lists" => lists(&args[2]),
         "loops" => loops(&args[2]),
         "facts" => facts(),
+        "figures" => figures(),
         "images" => images::answer(true),
         "steps" => images::answer(false),
         _ => absent(),

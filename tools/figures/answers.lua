@@ -1,0 +1,61 @@
+-- What Lua 5.3 or 5.4 answers: what it takes a string for, and every operator of the machine on every pair of operands.
+--
+--   answers.lua figures       of each line of standard input, a string in hexadecimal: what arithmetic takes it for, and tonumber
+--   answers.lua operators     on the operands of standard input, `v` and `s` lines as in crates/strings: an `r` line for each row of results
+--
+-- Arithmetic is s * 1, which keeps the kind of s and the sign of a zero.
+assert(os.setlocale("C", "all"))
+
+local function bytes_of(hex)
+  return (hex:gsub("..", function(pair) return string.char(tonumber(pair, 16)) end))
+end
+
+local function shown(ok, r)
+  if not ok or r == nil then return "e" end
+  if math.type(r) == "integer" then return string.format("i%016x", r) end
+  if type(r) == "boolean" then return r and "t" or "f" end
+  if r ~= r then return "n7ff8000000000000" end
+  return string.format("n%016x", (string.unpack(">I8", string.pack(">d", r))))
+end
+
+local function figures()
+  for line in io.lines() do
+    local s = bytes_of(line)
+    io.write(shown(pcall(function() return s * 1 end)), " ", shown(true, tonumber(s)), "\n")
+  end
+end
+
+local unary = { function(a) return -a end, function(a) return ~a end }
+local binary = {
+  function(a, b) return a + b end, function(a, b) return a - b end, function(a, b) return a * b end, function(a, b) return a / b end,
+  function(a, b) return a // b end, function(a, b) return a % b end, function(a, b) return a & b end, function(a, b) return a | b end,
+  function(a, b) return a ~ b end, function(a, b) return a << b end, function(a, b) return a >> b end,
+  function(a, b) return a == b end, function(a, b) return a < b end, function(a, b) return a <= b end,
+}
+
+local function operators()
+  local values, n = {}, 0
+  for line in io.lines() do
+    local kind, rest = line:sub(1, 2), line:sub(4)
+    n = n + 1
+    if line:sub(1, 1) == "s" then values[n] = bytes_of(line:sub(2))
+    elseif kind == "v1" then values[n] = rest:sub(-1) == "1"
+    elseif kind == "v2" then values[n] = string.unpack(">i8", bytes_of(rest))
+    elseif kind == "v3" then values[n] = string.unpack(">d", bytes_of(rest))
+    elseif kind == "v5" then values[n] = operators end
+  end
+  for _, op in ipairs(unary) do
+    io.write("r")
+    for i = 1, n do io.write(shown(pcall(op, values[i]))) end
+    io.write("\n")
+  end
+  for _, op in ipairs(binary) do
+    for i = 1, n do
+      io.write("r")
+      for j = 1, n do io.write(shown(pcall(op, values[i], values[j]))) end
+      io.write("\n")
+    end
+  end
+end
+
+if arg[1] == "figures" then figures() else operators() end
