@@ -1,7 +1,7 @@
 /* A small host of the deletion machine: reads an image from a file, checks it, starts it and runs it in parts until it
  * ends; then prints the answer and the returned values.
  *
- *     rt staticlib machine
+ *     tools/staticlib x86_64
  *     cc -I include -o host examples/host.c target/staticlib/libmachine.a -lm
  *     ./host image.txt [instructions in a part] */
 #include <inttypes.h>

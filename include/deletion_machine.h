@@ -1,6 +1,6 @@
 /* The deletion machine: reads an image, checks it, and runs it in parts.
  *
- *     rt staticlib machine        makes target/staticlib/libmachine.a, for x86-64 Linux
+ *     tools/staticlib x86_64      proves and makes target/staticlib/libmachine.a, for x86-64 Linux
  *     cc host.c libmachine.a -lm  links it
  *
  * What is lent. A slice is a pointer and a length in elements. All memory is the host's: nothing is allocated, nothing is
