@@ -34,7 +34,8 @@ loop-again c =
     let l : tie.At-loop Inv-loop μ-loop = search in
     let i : tie.In-loop Inv-loop μ-loop = search in
     let d : tie.After-digit Inv-loop μ-loop = search in
-    let n = digits-next 16 _ (l .loop .i) _ (d .digit .ensures) (i .loop-test .taken) (omega (arith, c .if1 .left)) in (
+    let s : tie.Start Inv-loop μ-loop = search in
+    let n = digits-next 16 (s .args .s .now) (l .loop .i) _ (d .digit .ensures) (i .loop-test .taken) (omega (arith, c .if1 .left)) in (
       omega arith,
       omega (arith, c .if1 .left),
       rw (add-one (l .loop .i)) (hex-value-next (l .loop .value) (d .digit .result) _ _ n ∙ l .loop .inv .2),
