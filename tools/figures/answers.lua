@@ -2,6 +2,8 @@
 --
 --   answers.lua figures       of each line of standard input, a string in hexadecimal: what arithmetic takes it for, and tonumber
 --   answers.lua operators     on the operands of standard input, `v` and `s` lines as in crates/strings: an `r` line for each row of results
+--   answers.lua blocks        on blocks of operands, each behind a line `w` or `l`: an `r` line for each operator, whose left operand, behind `l`
+--                             whose right one, is the block's first and whose other one is each of the block
 --
 -- Arithmetic is s * 1, which keeps the kind of s and the sign of a zero.
 assert(os.setlocale("C", "all"))
@@ -33,16 +35,20 @@ local binary = {
   function(a, b) return a == b end, function(a, b) return a < b end, function(a, b) return a <= b end,
 }
 
+local function value_of(line)
+  local kind, rest = line:sub(1, 2), line:sub(4)
+  if line:sub(1, 1) == "s" then return bytes_of(line:sub(2))
+  elseif kind == "v1" then return rest:sub(-1) == "1"
+  elseif kind == "v2" then return (string.unpack(">i8", bytes_of(rest)))
+  elseif kind == "v3" then return (string.unpack(">d", bytes_of(rest)))
+  elseif kind == "v5" then return value_of end
+end
+
 local function operators()
   local values, n = {}, 0
   for line in io.lines() do
-    local kind, rest = line:sub(1, 2), line:sub(4)
     n = n + 1
-    if line:sub(1, 1) == "s" then values[n] = bytes_of(line:sub(2))
-    elseif kind == "v1" then values[n] = rest:sub(-1) == "1"
-    elseif kind == "v2" then values[n] = string.unpack(">i8", bytes_of(rest))
-    elseif kind == "v3" then values[n] = string.unpack(">d", bytes_of(rest))
-    elseif kind == "v5" then values[n] = operators end
+    values[n] = value_of(line)
   end
   for _, op in ipairs(unary) do
     io.write("r")
@@ -58,4 +64,32 @@ local function operators()
   end
 end
 
-if arg[1] == "figures" then figures() else operators() end
+local function block(kind, values)
+  for _, op in ipairs(unary) do
+    io.write("r")
+    for _, v in ipairs(values) do io.write(shown(pcall(op, v))) end
+    io.write("\n")
+  end
+  for _, op in ipairs(binary) do
+    io.write("r")
+    for _, v in ipairs(values) do
+      if kind == "w" then io.write(shown(pcall(op, values[1], v))) else io.write(shown(pcall(op, v, values[1]))) end
+    end
+    io.write("\n")
+  end
+end
+
+local function blocks()
+  local kind, values
+  for line in io.lines() do
+    if line == "w" or line == "l" then
+      if kind then block(kind, values) end
+      kind, values = line, {}
+    else
+      values[#values + 1] = value_of(line)
+    end
+  end
+  block(kind, values)
+end
+
+({ figures = figures, operators = operators, blocks = blocks })[arg[1]]()

@@ -65,6 +65,40 @@ def vectors():
         yield from ((name, [a]) for a in OPERANDS) if arity == 1 else ((name, [a, b]) for a in OPERANDS for b in OPERANDS)
 
 
+# ---- every string with something beside it
+
+BESIDE = [(INTEGER, 7), (STRING, b'10'), (NUMBER, word(-2.5)), (INTEGER, 0), (STRING, b' 0x1F'), (NUMBER, word(0.0)), (STRING, b'2.5'), (INTEGER, 2**64 - 3)]
+BLOCK = 100
+
+
+class Block:
+    """Some strings, one of BESIDE before them, and whether that is the left operand or the right one."""
+    def __init__(self, turn, texts):
+        self.first = turn % 2 == 0
+        self.operands = [BESIDE[turn // 2 % len(BESIDE)]] + [(STRING, text) for text in texts]
+
+    def vectors(self, name, arity):
+        beside = self.operands[0]
+        return [(name, [v] if arity == 1 else [beside, v] if self.first else [v, beside]) for v in self.operands]
+
+    def rows(self, name, arity):
+        """A row has one left operand, or all only ones."""
+        results = [ours(*vector) for vector in self.vectors(name, arity)]
+        return ['r' + ''.join(results)] if arity == 1 or self.first else ['r' + result for result in results]
+
+
+def blocks(texts):
+    """Dealt out, so that a block has strings of every family."""
+    many = -(-len(texts) // BLOCK)
+    return [Block(turn, texts[turn::many]) for turn in range(many)]
+
+
+def block_vectors(texts):
+    for block in blocks(texts):
+        for _, _, name, arity in OPERATORS:
+            yield from block.vectors(name, arity)
+
+
 # ---- the list, and what must be written
 
 def lists(strings):
@@ -85,6 +119,13 @@ def lists(strings):
         results = [ours(name, [a]) for a in OPERANDS] if arity == 1 else [ours(name, [a, b]) for a in OPERANDS for b in OPERANDS]
         rows = ['r' + ''.join(results[i:i + n]) for i in range(0, len(results), n)]
         part(name, ['o%02x %02x' % (operation, error)] + rows, len(results))
+    made = []
+    texts = [text for _, family in strings for text in family]
+    for block in blocks(texts):
+        made += ['w', *map(operand_line, block.operands)]
+        for operation, error, name, arity in OPERATORS:
+            made += ['o%02x %02x' % (operation, error), *block.rows(name, arity)]
+    part('every operator on every string', made, sum(1 for _ in block_vectors(texts)))
     wrote = ['%s: compared %d, different 0' % part for part in counts] + ['all %d agree' % sum(count for _, count in counts)]
     return paged(lines), '\n'.join(wrote) + '\n'
 
@@ -157,9 +198,15 @@ def lua_strings(version, texts, differences):
             differences.add((cause, 'strings'), (len(text), text), (shown((STRING, text)), answer(figure(text)), arithmetic))
 
 
-def lua_operators(version, differences):
+def lua_operators(version, texts, differences):
     rows = lua(version, 'operators', [operand_line(v) for v in OPERANDS])
-    for (name, operands), got in zip(vectors(), results_of(rows), strict=True):
+    compare_lua(version, vectors(), rows, differences)
+    rows = lua(version, 'blocks', [line for block in blocks(texts) for line in ('w' if block.first else 'l', *map(operand_line, block.operands))])
+    compare_lua(version, block_vectors(texts), rows, differences)
+
+
+def compare_lua(version, asked, rows, differences):
+    for (name, operands), got in zip(asked, results_of(rows), strict=True):
         foretold, cause = lua_answer(version, name, operands)
         want = ours(name, operands)
         if got != foretold or got != want and cause is None:
@@ -223,11 +270,11 @@ def lua_table(version, differences):
 
 def lua_part(texts, found):
     inside = [figure(text) for text in texts if figure(text)]
-    total = sum(1 for _ in vectors())
+    total, more = sum(1 for _ in vectors()), sum(1 for _ in block_vectors(texts))
     lines = [
         '<!-- Written by cases.py. -->', '# Where Lua and the Rust differ from document 02, 1/12', '',
-        'Of %d strings %d read as an integer, %d as a number, %d as neither. The operators have %d results on %d operands.' % (
-            len(texts), sum(f[0] == INTEGER for f in inside), sum(f[0] == NUMBER for f in inside), len(texts) - len(inside), total, len(OPERANDS)),
+        'Of %d strings %d read as an integer, %d as a number, %d as neither. The operators have %d results on %d operands, and %d on the strings.' % (
+            len(texts), sum(f[0] == INTEGER for f in inside), sum(f[0] == NUMBER for f in inside), len(texts) - len(inside), total, len(OPERANDS), more),
         'A difference is counted under one cause; `strings` counts strings, by what arithmetic takes them for. Everything else agrees.', '', '## Lua', '',
     ]
     for version in VERSIONS:
@@ -268,7 +315,7 @@ def main(words):
     found = {version: Differences() for version in VERSIONS}
     for version in VERSIONS:
         lua_strings(version, texts, found[version])
-        lua_operators(version, found[version])
+        lua_operators(version, texts, found[version])
     rust = written_rust_part()
     if folder:
         differences = Differences()
@@ -282,7 +329,8 @@ def main(words):
             file.write(page.encode())
     elif content(DIFFERENCES) != page.encode():
         sys.exit('tools/figures/differences.md is stale: tools/figures/cases.py makes another')
-    print('%d strings, %d results%s' % (len(texts), sum(1 for _ in vectors()), ', and the Rust' if folder else ''))
+    results = sum(1 for _ in vectors()) + sum(1 for _ in block_vectors(texts))
+    print('%d strings, %d results%s' % (len(texts), results, ', and the Rust' if folder else ''))
 
 
 main(sys.argv[1:])

@@ -9,7 +9,7 @@
 //   v2 0000000000000001       an operand: its kind and its word
 //   s3130                     an operand that is a string, its bytes
 //   o21 1e                    an operator: its operation and its error
-//   ri000000000000000be..     its results for one left operand and every right one, or for every only one; `t`, `f` too
+//   ri000000000000000be..     its results for the next left operand and the right ones in order, or for the only ones; `t`, `f` too
 //   .                         the part's end
 use checker::Binary;
 use checker::Compare;
