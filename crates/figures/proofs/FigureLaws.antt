@@ -99,8 +99,21 @@ module _ (base : ℕ) (l : List ℕ) (n : ℕ) (N : n ≡ length (digits base l)
   behind-digits : drop n l ≡ afterDigits base l
   behind-digits = ap (λ (x : ℕ). drop x l) N ∙ after-digits base l
 
-run-count : (ds : List ℕ) → tally emptyTally ds .count ≡ length ds
-run-count ds = tally-count emptyTally ds ∙ zero-add (length ds)
+module _ (t : Tally) (ds : List ℕ) (U : t ≡ tally emptyTally ds) where
+  no-less : 0 ≡ min 0 stopAt
+  no-less = sym (min-is 0 (omega arith))
+
+  run-count : t .count ≡ length ds
+  run-count = ap (λ (u : Tally). u .count) U ∙ tally-count emptyTally ds ∙ zero-add (length ds)
+
+  run-kept : t .kept ≡ min (significand 0 0 ds) stopAt
+  run-kept = ap (λ (u : Tally). u .kept) U ∙ tally-kept emptyTally 0 0 ds no-less no-less
+
+  run-value : t .value ≡ min (valueFrom 10 0 ds) stopAt
+  run-value = ap (λ (u : Tally). u .value) U ∙ tally-value emptyTally 0 ds no-less
+
+  run-zeros : t .zeros ≡ zeros 0 ds
+  run-zeros = ap (λ (u : Tally). u .zeros) U ∙ tally-zeros emptyTally ds
 
 -- ---- the code's cases
 
@@ -123,7 +136,7 @@ module _ (s : Bool) (l : List ℕ) (n : ℕ) (N : n ≡ length (digits 16 l)) wh
 
 module _ (s : Bool) (d z p : ℕ) (b : Bool) (l : List ℕ) (t : Tally) (U : t ≡ tally emptyTally (digits 10 l)) where
   many : t .count ≡ length (digits 10 l)
-  many = ap (λ (u : Tally). u .count) U ∙ run-count (digits 10 l)
+  many = run-count t (digits 10 l) U
 
   pub power-none : t .count ≡ 0 → None ≡ power s d z p b l
   unfolding power
@@ -137,7 +150,7 @@ module _ (s : Bool) (d z p : ℕ) (b : Bool) (l : List ℕ) (t : Tally) (U : t �
   unfolding power
   power-is h e Z P =
       rw (no-digits 10 l (t .count) many, ne-eqb (t .count) 0 h, ← behind-digits 10 l (t .count) many, e)
-      (ap (raised s d z p b) (ap (λ (u : Tally). u .value) U ∙ tally-value emptyTally 0 (digits 10 l) (sym (min-is 0 (omega arith)))) ∙ raised-value s d z p b (valueFrom 10 0 (digits 10 l)) Z P)
+      (ap (raised s d z p b) (run-value t (digits 10 l) U) ∙ raised-value s d z p b (valueFrom 10 0 (digits 10 l)) Z P)
 
 module _ (s : Bool) (d z p : ℕ) (l : List ℕ) where
   pub exponent-minus : first l ≡ 45 → power s d z p true (drop 1 l) ≡ exponent s d z p l
@@ -183,26 +196,11 @@ module _ (s : Bool) (v d z : ℕ) (l : List ℕ) where
 -- ---- digits with and without a point
 
 module _ (s : Bool) (l : List ℕ) (t : Tally) (U : t ≡ tally emptyTally (digits 10 l)) where
-  no-less : 0 ≡ min 0 stopAt
-  no-less = sym (min-is 0 (omega arith))
-
-  decimal-count : t .count ≡ length (digits 10 l)
-  decimal-count = ap (λ (u : Tally). u .count) U ∙ run-count (digits 10 l)
-
   decimal-after : drop (t .count) l ≡ afterDigits 10 l
-  decimal-after = behind-digits 10 l (t .count) decimal-count
+  decimal-after = behind-digits 10 l (t .count) (run-count t (digits 10 l) U)
 
   decimal-digits : isEmpty (digits 10 l) ≡ eqb (t .count) 0
-  decimal-digits = no-digits 10 l (t .count) decimal-count
-
-  decimal-kept : t .kept ≡ min (significand 0 0 (digits 10 l)) stopAt
-  decimal-kept = ap (λ (u : Tally). u .kept) U ∙ tally-kept emptyTally 0 0 (digits 10 l) no-less no-less
-
-  decimal-value : t .value ≡ min (valueFrom 10 0 (digits 10 l)) stopAt
-  decimal-value = ap (λ (u : Tally). u .value) U ∙ tally-value emptyTally 0 (digits 10 l) no-less
-
-  decimal-zeros : t .zeros ≡ zeros 0 (digits 10 l)
-  decimal-zeros = ap (λ (u : Tally). u .zeros) U ∙ tally-zeros emptyTally (digits 10 l)
+  decimal-digits = no-digits 10 l (t .count) (run-count t (digits 10 l) U)
 
   pub decimal-exponent : (first (drop (t .count) l) ≡ 46 → ⊥) → (t .count ≡ 0 → ⊥) → isE (first (drop (t .count) l)) ≡ true
       → exponent s (t .kept) (t .zeros) 0 (drop 1 (drop (t .count) l)) ≡ decimalText s l
@@ -210,7 +208,7 @@ module _ (s : Bool) (l : List ℕ) (t : Tally) (U : t ≡ tally emptyTally (digi
   decimal-exponent h k e =
       rw (← decimal-after, ne-eqb (first (drop (t .count) l)) 46 h, decimal-digits, ne-eqb (t .count) 0 k, e)
       (ap (λ (r : List ℕ). exponent s (t .kept) (t .zeros) 0 r) (sym (rest-is (drop (t .count) l)))
-      ∙ ap₂ (λ (d z : ℕ). exponent s d z 0 (rest (drop (t .count) l))) decimal-kept decimal-zeros
+      ∙ ap₂ (λ (d z : ℕ). exponent s d z 0 (rest (drop (t .count) l))) (run-kept t (digits 10 l) U) (run-zeros t (digits 10 l) U)
       ∙ exponent-kept s (significand 0 0 (digits 10 l)) (zeros 0 (digits 10 l)) 0 (rest (drop (t .count) l)))
 
   pub decimal-none : (first (drop (t .count) l) ≡ 46 → ⊥) → t .count ≡ 0 → None ≡ decimalText s l
@@ -222,8 +220,8 @@ module _ (s : Bool) (l : List ℕ) (t : Tally) (U : t ≡ tally emptyTally (digi
   unfolding decimalText withoutPoint
   decimal-whole h k e =
       rw (← decimal-after, ne-eqb (first (drop (t .count) l)) 46 h, decimal-digits, ne-eqb (t .count) 0 k, e)
-      (ap (λ (v : ℕ). whole s v (t .kept) (t .zeros) (drop (t .count) l)) decimal-value
-      ∙ ap₂ (λ (d z : ℕ). whole s (min (valueFrom 10 0 (digits 10 l)) stopAt) d z (drop (t .count) l)) decimal-kept decimal-zeros
+      (ap (λ (v : ℕ). whole s v (t .kept) (t .zeros) (drop (t .count) l)) (run-value t (digits 10 l) U)
+      ∙ ap₂ (λ (d z : ℕ). whole s (min (valueFrom 10 0 (digits 10 l)) stopAt) d z (drop (t .count) l)) (run-kept t (digits 10 l) U) (run-zeros t (digits 10 l) U)
       ∙ whole-kept s (valueFrom 10 0 (digits 10 l)) (significand 0 0 (digits 10 l)) (zeros 0 (digits 10 l)) (drop (t .count) l))
 
   pub decimal-point : first (drop (t .count) l) ≡ 46
@@ -235,8 +233,8 @@ module _ (s : Bool) (l : List ℕ) (t : Tally) (U : t ≡ tally emptyTally (digi
     where
       both : (r : List ℕ) → behindPoint s t (tally t (digits 10 r)) (afterDigits 10 r) ≡ withPoint s (digits 10 l) (digits 10 r) (afterDigits 10 r)
       both r =
-          ap₂ (λ (n : ℕ) (f : Figure). cond (eqb n 0) None f) count
-          (ap₂ (λ (d z : ℕ). pointed s d z (u .count - t .count) (afterDigits 10 r)) kept some-zeros
+          ap₂ (λ (n : ℕ) (f : Figure). cond (eqb n 0) None f) (run-count u ds is)
+          (ap₂ (λ (d z : ℕ). pointed s d z (u .count - t .count) (afterDigits 10 r)) (run-kept u ds is) (run-zeros u ds is)
           ∙ ap (λ (n : ℕ). pointed s (min (significand 0 0 ds) stopAt) (zeros 0 ds) n (afterDigits 10 r)) places
           ∙ pointed-kept s (significand 0 0 ds) (zeros 0 ds) (length (digits 10 r)) (afterDigits 10 r))
           ∙ ap (λ (b : Bool). cond b None (pointed s (significand 0 0 ds) (zeros 0 ds) (length (digits 10 r)) (afterDigits 10 r))) (sym (empty-length ds))
@@ -250,15 +248,6 @@ module _ (s : Bool) (l : List ℕ) (t : Tally) (U : t ≡ tally emptyTally (digi
 
           is : u ≡ tally emptyTally ds
           is = ap (λ (x : Tally). tally x (digits 10 r)) U ∙ sym (tally-append emptyTally (digits 10 l) (digits 10 r))
-
-          count : u .count ≡ length ds
-          count = ap (λ (x : Tally). x .count) is ∙ run-count ds
-
-          kept : u .kept ≡ min (significand 0 0 ds) stopAt
-          kept = ap (λ (x : Tally). x .kept) is ∙ tally-kept emptyTally 0 0 ds no-less no-less
-
-          some-zeros : u .zeros ≡ zeros 0 ds
-          some-zeros = ap (λ (x : Tally). x .zeros) is ∙ tally-zeros emptyTally ds
 
           places : u .count - t .count ≡ length (digits 10 r)
           places = ap (λ (x : ℕ). x - t .count) (tally-count t (digits 10 r)) ∙ less (t .count) (length (digits 10 r))
@@ -297,14 +286,13 @@ drop-fit l n r e h = rw (e, length-drop n l) (omega arith)
 
 module _ (l : List ℕ) (t : Tally) (U : t ≡ tally emptyTally (digits 10 l)) where
   pub value-fits : t .value ≤ 2 ^ 63 + 1
-  value-fits = let h : t .value ≡ min (valueFrom 10 0 (digits 10 l)) stopAt = decimal-value false l t U in omega arith
+  value-fits = omega (arith, run-value t (digits 10 l) U)
 
   pub count-fits : t .count ≤ length l
-  count-fits = omega (arith, decimal-count false l t U, digits-fit 10 l)
+  count-fits = omega (arith, run-count t (digits 10 l) U, digits-fit 10 l)
 
   pub zeros-in : t .zeros ≤ t .count
-  zeros-in =
-      omega (arith, decimal-count false l t U, decimal-zeros false l t U, zeros-fit 0 (digits 10 l))
+  zeros-in = omega (arith, run-count t (digits 10 l) U, run-zeros t (digits 10 l) U, zeros-fit 0 (digits 10 l))
 
 -- the digits behind the point, after those before it
 module _ (s : Bool) (l : List ℕ) (t u : Tally) (U : u ≡ tally t (digits 10 l)) where

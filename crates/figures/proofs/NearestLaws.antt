@@ -77,17 +77,14 @@ held b h = (ofBits-fits binary64 b, value-finite (ofBits binary64 b) (leb (2 ^ 6
 
 -- back: what is finite has a field below 2047
 not-finite : (s : Bool) (x t : ℕ) → x ≡ 2047 → T (finite (ofFields binary64 s x t)) → ⊥
-not-finite s x t e h = go (eqb t 0) (subst (λ (y : ℕ). T (finite (ofFields binary64 s y t))) e h)
+not-finite s x t e h = shut (eqb t 0) (subst (λ (v : Float). T (finite v)) (ap (λ (y : ℕ). ofFields binary64 s y t) e ∙ open-up) h)
   where
     open-up : ofFields binary64 s 2047 t ≡ cond (eqb t 0) (inf s) nan
     open-up = unfold ofFields in refl
 
-    go : (b : Bool) → T (finite (ofFields binary64 s 2047 t)) → ⊥
-    go b k = shut (eqb t 0) (subst (λ (v : Float). T (finite v)) open-up k)
-      where
-        shut : (b : Bool) → T (finite (cond b (inf s) nan)) → ⊥
-        shut true u = u
-        shut false u = u
+    shut : (b : Bool) → T (finite (cond b (inf s) nan)) → ⊥
+    shut true u = u
+    shut false u = u
 
 finite-field : (b : ℕ) → T (finite (ofBits binary64 b)) → C.exponentField b < 2047
 finite-field b h = go (eq-or-lt-of-le (below (C.exponentField b) (mod-lt (b / 2 ^ 52) (pow-pos 11))))

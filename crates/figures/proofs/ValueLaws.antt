@@ -68,11 +68,11 @@ minus-is a b (negsuc k) h = minus-down a b (omega arith) ∙ ap negsuc (same a b
 
 -- ---- d × 10 ^ n, without a trailing zero
 
-ends-zero : (d n : ℕ) → d * 10 ^ suc n % 10 ≡ 0
-ends-zero d n = ap (λ (x : ℕ). x % 10) (ap (λ (x : ℕ). d * x) (pow-suc 10 n) ∙ sym (mul-assoc d (10 ^ n) 10)) ∙ mul-mod-left (d * 10 ^ n) 10
-
 one-more : (d n : ℕ) → d * 10 ^ suc n ≡ d * 10 ^ n * 10
 one-more d n = ap (λ (x : ℕ). d * x) (pow-suc 10 n) ∙ sym (mul-assoc d (10 ^ n) 10)
+
+ends-zero : (d n : ℕ) → d * 10 ^ suc n % 10 ≡ 0
+ends-zero d n = ap (λ (x : ℕ). x % 10) (one-more d n) ∙ mul-mod-left (d * 10 ^ n) 10
 
 only-power : (a b m n : ℕ) → (a % 10 ≡ 0 → ⊥) → (b % 10 ≡ 0 → ⊥) → a * 10 ^ m ≡ b * 10 ^ n → (a ≡ b) × (m ≡ n)
 only-power a b zero zero A B e = (sym (mul-one a) ∙ e ∙ mul-one b, refl)
