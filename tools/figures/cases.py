@@ -16,8 +16,8 @@ import sys
 sys.dont_write_bytecode = True
 HERE = os.path.dirname(os.path.realpath(__file__))
 sys.path.insert(1, os.path.join(HERE, '..'))
-from expected import (ARITHMETIC, BLANK_ENDS, FLOATS, FORMULA, HEX_FRACTION, KIND, MORE_DIGITS, MORE_POWER, NAMED, NO_BITS, NO_DIGITS, PAST_END, SMALLEST,
-                      WRAPS, answer, lua_answer, lua_figure, ours, rust_causes)
+from expected import (ARITHMETIC, BLANK_ENDS, FLOATS, HEX_FRACTION, KIND, MORE_DIGITS, MORE_POWER, NAMED, NO_BITS, NO_DIGITS, PAST_END, SMALLEST,
+                      VANISHES, WRAPS, answer, lua_answer, lua_figure, ours, rust_causes)
 from figure import BLANKS, decimal, figure, split
 from oracle.kept import content, keep
 from reference import INTEGER, NUMBER, STRING, to_number
@@ -246,7 +246,7 @@ def rust_strings(folder, texts, differences):
 
 # ---- what is written
 
-CAUSES = (FLOATS, NO_BITS, MORE_DIGITS, MORE_POWER, HEX_FRACTION, FORMULA)
+CAUSES = (FLOATS, NO_BITS, MORE_DIGITS, MORE_POWER, HEX_FRACTION, VANISHES)
 RUST_CAUSES = (BLANK_ENDS, SMALLEST, WRAPS, PAST_END, KIND, MORE_DIGITS, MORE_POWER, HEX_FRACTION, NO_DIGITS, NAMED)
 RUST_PART = '## The Rust\n'
 

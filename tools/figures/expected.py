@@ -6,7 +6,8 @@ import re
 from fractions import Fraction
 
 from figure import BLANKS, FORM, POWER, decimal, figure, figured, hexadecimal, judged, split
-from reference import INTEGER, NUMBER, OPERATORS, STRING, TOP, add_numbers, exact, is_infinite, is_nan, nearest, remainder, to_number
+from causes import product_vanishes
+from reference import INTEGER, NUMBER, OPERATORS, STRING, TOP, nearest, remainder, to_number
 
 ARITHMETIC = ('negate', 'add', 'subtract', 'multiply', 'float_divide', 'floor_divide', 'modulo')
 COMPARISONS = ('is_equal', 'less_than', 'less_equal')
@@ -17,7 +18,7 @@ MORE_POWER = 'a fraction whose net power of ten is past 22 is a number'
 HEX_FRACTION = 'a 0x fraction, or one with an exponent `p`, is a number'
 FLOATS = 'a string that reads as an integer becomes a number in arithmetic'
 NO_BITS = 'a bit operation on a string is an error'
-FORMULA = '`%` of numbers is no ((a % b) + b) % b'
+VANISHES = '`%` of numbers asks whether remainder times divisor is below zero, and the product rounds to zero'
 BLANK_ENDS = 'a string with blanks at its ends is refused'
 SMALLEST = 'the smallest integer is refused'
 WRAPS = 'a 0x integer from 2^63 on is refused'
@@ -63,16 +64,6 @@ def lua_figure(text):
     return (None, None) if size is None else ((NUMBER, nearest(minus, size)), HEX_FRACTION)
 
 
-def lua_modulo(version, x, y):
-    """Lua's `%` of numbers: the remainder, and once the divisor more where the signs differ. 5.3 asks their product, which may be too small."""
-    r = remainder(x, y)
-    if is_nan(r) or is_nan(y) or r % TOP == 0 or (r >= TOP) == (y >= TOP):
-        return r
-    if version == '5.3' and not is_infinite(y) and nearest(False, abs(exact(r) * exact(y))) == 0:
-        return r
-    return add_numbers(r, y)
-
-
 def lua_operand(version, name, value):
     """What an operator of Lua's takes a value for, and the cause where document 02 takes it for another."""
     if value[0] != STRING or name in COMPARISONS:
@@ -96,11 +87,9 @@ def lua_answer(version, name, operands):
     """Lua's answer, and the cause where it isn't document 02's."""
     taken = [lua_operand(version, name, v) for v in operands]
     values = [v for v, _ in taken]
-    kinds = [v[0] for v in values]
-    if name == 'modulo' and set(kinds) <= {INTEGER, NUMBER} and NUMBER in kinds:
-        got, cause = 'n%016x' % lua_modulo(version, *map(to_number, values)), FORMULA
-    else:
-        got, cause = OPERATORS[name](*values), None
+    got, cause = OPERATORS[name](*values), None
+    if version == '5.3' and name == 'modulo' and got[0] == 'n' and product_vanishes(*map(to_number, values)):
+        got, cause = 'n%016x' % remainder(*map(to_number, values)), VANISHES
     causes = [c for _, c in taken if c]
     return got, next((c for c in causes if c != FLOATS), causes[0] if causes else cause)
 

@@ -169,6 +169,31 @@ b002000000000000000a
 b00420313220
 '''
 
+# luac folds a remainder of two constants where it is neither zero nor NaN: the same as the machine's, which has the others to work out.
+PERIODS = '''local forever = 1e999
+return 1.0 % forever, 1.0 % 1e999, -1.0 % forever, -1.0 % 1e999, -4.0 % 2.0
+'''
+PERIODS_LISTING = '''\
+prototype 0, the main program: registers 6, parameters 0
+0:0     line 1     LoadConstant    r0 = inf
+0:1     line 2     Mod             r1 = 1.0 % r0
+0:2     line 2     LoadConstant    r2 = 1.0
+0:3     line 2     Mod             r3 = -1.0 % r0
+0:4     line 2     LoadConstant    r4 = inf
+0:5     line 2     Mod             r5 = -4.0 % 2.0
+0:6     line 2     Return          r1..r5
+0:7     line 2     Return          no value
+'''
+# 1.0 twice, infinity twice, and -0.0.
+PERIODS_ANSWER = '''\
+f00000000007000006
+b0033ff0000000000000
+b0033ff0000000000000
+b0037ff0000000000000
+b0037ff0000000000000
+b0038000000000000000
+'''
+
 
 def lua2image(*arguments, **environment):
     done = subprocess.run([sys.executable, COMMAND, *arguments], stdout=subprocess.PIPE, stderr=subprocess.PIPE, universal_newlines=True,
@@ -315,13 +340,19 @@ class Listing(Test):
             '0:2      Return          no value\n'), ''))
 
 
-class Figures(Test):
-    def test_years_as_text(self):
-        rule, image = self.file('rule.lua', YEARS), self.file('rule.image')
-        self.assertEqual(lua2image('--list', rule, '-o', image), (0, YEARS_LISTING, ''))
+class Answers(Test):
+    def answers(self, source, listing, answer):
+        rule, image = self.file('rule.lua', source), self.file('rule.image')
+        self.assertEqual(lua2image('--list', rule, '-o', image), (0, listing, ''))
         with open(image, 'rb') as file:
-            answer = subprocess.run([sys.executable, SESSION], stdin=file, stdout=subprocess.PIPE, check=True, universal_newlines=True).stdout
-        self.assertEqual(answer, YEARS_ANSWER)
+            said = subprocess.run([sys.executable, SESSION], stdin=file, stdout=subprocess.PIPE, check=True, universal_newlines=True).stdout
+        self.assertEqual(said, answer)
+
+    def test_years_as_text(self):
+        self.answers(YEARS, YEARS_LISTING, YEARS_ANSWER)
+
+    def test_a_period_without_end(self):
+        self.answers(PERIODS, PERIODS_LISTING, PERIODS_ANSWER)
 
 
 if __name__ == '__main__':

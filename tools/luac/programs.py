@@ -1,11 +1,10 @@
 """The Lua programs of crates/runs: CASES, made by family from a generator of numbers of our own.
 
-Left out, since the documents say otherwise than Lua 5.3 (docs/DIFFERENCES.md): Mod of numbers whose remainder is zero under an unlike sign, or whose
-sum rounds; arithmetic in which a string reads as an integer and no operand is a number, of which Lua 5.3 makes floats; strings outside the set that
-Lua converts; loops with a string, a NaN or a step of zero; loops of numbers with an integer limit that a number doesn't hold. An error's line has
-just one instruction that could raise it."""
+Left out, since the documents say otherwise than Lua 5.3 (docs/DIFFERENCES.md): Mod of numbers whose remainder times divisor rounds to zero under
+strictly opposite signs; arithmetic in which a string reads as an integer and no operand is a number, of which Lua 5.3 makes floats; strings outside
+the set that Lua converts; loops with a string, a NaN or a step of zero; loops of numbers with an integer limit that a number doesn't hold. An error's
+line has just one instruction that could raise it."""
 import math
-from fractions import Fraction
 
 from oracle.dice import Dice
 
@@ -83,6 +82,7 @@ def arithmetic(count):
             left, right = operand(), operand()
             integers = left[1] == right[1] == 'i'
             operators = ['+', '-', '*', '//', '/', 'minus', '+', '-', '*']
+            # `%` of numbers has its own programs, which know what they divide: see `vanishes`.
             if integers or dice.chance(12):
                 operators += ['%'] * (2 if integers else 0) + ['&', '|', '~', '<<', '>>', 'not']
             elif left[2] and right[2]:
@@ -131,6 +131,14 @@ return w1, w2, w3, w4, w5, w6, w7, w10, w11, w12''')
     case('worked example W13', 'local n = 0\nfor i = 1, 3 do n = n * 10 + i end\nreturn n')
 
 
+def vanishes(a, b):
+    """Whether Lua 5.3 has another remainder: it adds the divisor where remainder times divisor is below zero, and here the product rounds to zero."""
+    if b == 0:
+        return False
+    r = math.fmod(a, b)
+    return (r < 0 < b or b < 0 < r) and r * b == 0
+
+
 def modulo(count):
     for turn in range(count):
         dice = Dice(2000 + turn)
@@ -138,17 +146,32 @@ def modulo(count):
         while len(names) < 6:
             a, b = ((dice.below(4001) - 2000) / 8 for _ in range(2))
             if dice.chance(6):
-                a = dice.pick([1e15, -1e15, 1e300, -123456789.0])
-            if a == 0 or b == 0 or math.fmod(a, b) == 0 and not (a > 0 and b > 0):
-                continue
-            if Fraction(math.fmod(a, b)) + Fraction(b) != Fraction(math.fmod(a, b) + b):
+                a = dice.pick([1e15, -1e15, 1e300, -123456789.0, 5e-324, -1e-20])
+            elif dice.chance(4):
+                a = b * (dice.below(9) - 4)
+            if dice.chance(6):
+                b = dice.pick([math.inf, -math.inf, 0.1, -1e-310, 1.7e308])
+            if vanishes(a, b):
                 continue
             i = len(names)
-            if dice.chance(3) and b.is_integer():
+            if dice.chance(3) and is_whole(b):
                 b = int(b)
-            lines += ['local a%d, b%d = %s, %s' % (i, i, literal(a), literal(b)), 'local r%d = a%d %% b%d' % (i, i, i)]
+            # By a variable, or by a constant.
+            if turn % 2 == 0:
+                lines += ['local a%d, b%d = %s, %s' % (i, i, literal(a), literal(b)), 'local r%d = a%d %% b%d' % (i, i, i)]
+            else:
+                lines += ['local a%d = %s' % (i, literal(a)), 'local r%d = a%d %% %s' % (i, i, literal(b))]
             names.append('r%d' % i)
         case('modulo of numbers %d' % turn, lines + ['return ' + ', '.join(names)])
+    case('modulo of numbers: kept for ever', '''
+local age, ever = 1.0, 1e999
+return age % ever, -age % ever, age % -ever, -age % -ever, 0 % ever, 7 % ever, ever % age''')
+    case('modulo of numbers: zeros, and sums that round', '''
+local four, two, small, one, large = 4.0, 2.0, 1e-20, 1.0, 1e308
+return -four % two, four % -two, small % one, -small % one, large % 1.7e308, -large % 1.7e308''')
+    # luac works these out itself, but for the two that give a zero.
+    case('modulo of numbers: literals', '''
+return 1.0 % 1e999, -1.0 % 1e999, -4.0 % 2.0, 4.0 % -2.0, -1e-20 % 1.0, 1e308 % 1.7e308''')
     case('modulo and division by the number zero', '''
 local z, m, one, inf = 0.0, 1, 5, 1e999
 m = -z

@@ -1,4 +1,4 @@
-"""Values, and what the operators make of them: document 01, "Arithmetic and order".
+"""Values, and what the operators make of them: document 01, "Arithmetic and order"; `Mod` of numbers is document 02's, 3/12.
 
 A value is a kind and a word: nil 0 and 0; boolean 1 and 0 or 1; integer 2 and its 64 bits; number 3 and its 64 bits; string 4 and the number of
 its constant in the whole image; function 5 and its prototype.
@@ -83,6 +83,12 @@ def remainder(x, y):
     return math.fmod(x, y)
 
 
+def modulo(x, y):
+    """The remainder, and y more where the two have strictly opposite signs."""
+    r = remainder(x, y)
+    return r + y if r < 0 < y or y < 0 < r else r
+
+
 def floor(x):
     if x != x or math.isinf(x) or x == 0:
         return x
@@ -116,7 +122,7 @@ OF_NUMBERS = {
     'Mul': lambda x, y: x * y,
     'Div': divide,
     'IDiv': lambda x, y: floor(divide(x, y)),
-    'Mod': lambda x, y: remainder(remainder(x, y) + y, y),
+    'Mod': modulo,
 }
 
 

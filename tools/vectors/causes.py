@@ -1,12 +1,12 @@
-"""Where the Rust differs from document 01, by operator and operands: RULES, each with the cause in words.
+"""Where the Rust differs from the documents, by operator and operands: RULES, each with the cause in words.
 
 Most are those of document 01's section "Where the Rust misleads"; docs/DIFFERENCES.md has them all. A rule holds just
 where its cause is at work, so that a difference without a rule is one that nobody knows of. Operators have the names of
 reference.py, and its values: (kind, word), or (4, bytes). What the Rust makes of a string where an operator reads it as a
-figure is in ../whole/texts.py.
+figure is in ../whole/texts.py. Behind the rules: where Lua 5.3 differs.
 """
 import reference
-from reference import INTEGER, NUMBER, STRING, signed
+from reference import INTEGER, NUMBER, STRING, TOP, add_numbers, remainder, signed
 
 SIGN = {
     "negate": "-", "bitwise_not": "~", "add": "+", "subtract": "-", "multiply": "*", "float_divide": "/",
@@ -30,7 +30,8 @@ def shown(value):
         if reference.is_infinite(word):
             return "-inf" if reference.negative(word) else "inf"
         q = reference.exact(word)
-        return "%s%d.0" % ("-" if reference.negative(word) else "", abs(q)) if q.denominator == 1 else repr(float(q))
+        whole = q.denominator == 1 and abs(q) < 10**30
+        return "%s%d.0" % ("-" if reference.negative(word) else "", abs(q)) if whole else repr(float(q))
     return "nil" if kind == 0 else "true" if word else "false"
 
 
@@ -62,6 +63,36 @@ def overflows(name, operands):
     a, b = (signed(v[1]) for v in operands)
     rest = abs(a) % abs(b) * (-1 if a < 0 else 1)
     return not -2**63 <= rest + b < 2**63
+
+
+def apart_by_formula(name, operands):
+    """The two numbers of a `%` to which the Rust's ((a % b) + b) % b gives another number than document 02, or None."""
+    if name != "modulo" or kinds(operands) == [INTEGER, INTEGER] or not all(map(reference.is_numeric, operands)):
+        return None
+    x, y = map(reference.to_number, operands)
+    formula = remainder(add_numbers(remainder(x, y), y), y)
+    return None if formula == reference.modulo_numbers(x, y) else (x, y)
+
+
+def divides_infinity(name, operands):
+    """b + a is b, and an infinity has no remainder."""
+    pair = apart_by_formula(name, operands)
+    return pair is not None and reference.is_infinite(pair[1])
+
+
+def sum_is_infinite(name, operands):
+    pair = apart_by_formula(name, operands)
+    return pair is not None and reference.is_infinite(add_numbers(remainder(*pair), pair[1]))
+
+
+def zero_turns(name, operands):
+    """b % b is a zero with the sign of b."""
+    pair = apart_by_formula(name, operands)
+    return pair is not None and remainder(*pair) % TOP == 0
+
+
+def sum_rounds(name, operands):
+    return apart_by_formula(name, operands) is not None
 
 
 def takes_two_to_63(name, operands):
@@ -104,6 +135,10 @@ RULES = [
     (truncates, "`floor_divide` uses `wrapping_div`: it rounds toward zero"),
     (has_no_quotient, "`modulo` panics at W4"),
     (overflows, "`modulo` overflows at W5, in (a % b) + b"),
+    (divides_infinity, "`modulo` of numbers is ((a % b) + b) % b: NaN by an infinity"),
+    (sum_is_infinite, "`modulo` of numbers is ((a % b) + b) % b: NaN where the sum is too large for a number"),
+    (zero_turns, "`modulo` of numbers is ((a % b) + b) % b: a zero has the sign of b"),
+    (sum_rounds, "`modulo` of numbers is ((a % b) + b) % b: the sum rounds before its remainder is taken"),
     (takes_two_to_63, "`to_integer` accepts 2^63"),
     (rounds_first, "mixed comparison rounds first (W8)"),
     (shifts_far, "a shift isn't defined below 0 or past 63"),
@@ -111,3 +146,12 @@ RULES = [
     (rounds_limit, "a loop of numbers rounds an integer limit first"),
     (index_overflows, "an integer loop's index + step overflows"),
 ]
+
+
+# Lua 5.3.
+
+def product_vanishes(x, y):
+    """Whether Lua 5.3 leaves out the `+ b` of document 02's `%` of two numbers. It asks whether remainder times divisor is
+    below zero, and under strictly opposite signs that product may round to zero."""
+    r = remainder(x, y)
+    return reference.opposed(r, y) and reference.multiply_numbers(r, y) % TOP == 0

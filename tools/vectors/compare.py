@@ -2,10 +2,11 @@
 
     compare.py FOLDER
 
-FOLDER has lua.list, and the Rust's answers with overflow checks (checked.list, .loops, .facts) and as a release
-(released.list, .loops, .facts); make.sh puts them there. Written into it: stdin (Lua's list, then the Rust's with `-`
-wherever it differs from document 01), stdout (what the replayer must print of it) and differences.md. It stops with an
-error where Lua differs from the reference anywhere, or the Rust where no rule of RULES says so.
+FOLDER has lua5.3.list, lua5.4.list, and the Rust's answers with overflow checks (checked.list, .loops, .facts) and as a
+release (released.list, .loops, .facts); make.sh puts them there. Written into it: stdin (Lua's lists, then the Rust's with
+`-` wherever it differs from the documents), stdout (what the replayer must print of it) and differences.md. It stops with
+an error where Lua differs from the reference anywhere, or the Rust where no rule of RULES says so, and where `%` of numbers
+breaks its law.
 """
 import re
 import sys
@@ -13,12 +14,13 @@ from collections import namedtuple
 from fractions import Fraction
 
 import reference
-from causes import RULES, SIGN, shown, shown_vector
-from reference import INTEGER, NUMBER, STRING, signed
+from causes import RULES, SIGN, product_vanishes, shown, shown_vector
+from reference import INTEGER, NUMBER, STRING, TOP, signed
 
 Section = namedtuple("Section", "numbers source name values results")
 Difference = namedtuple("Difference", "rule name operands wanted checked released")
 ARITY = {"negate": 1, "bitwise_not": 1, "past_end": 3}
+HARD = "hard numbers modulo"
 
 
 # The lists.
@@ -66,17 +68,18 @@ def list_of(all_sections):
     return "\n".join(lines) + "\n"
 
 
-def plain(section):
-    return section.name.removeprefix("strings ")
+def plain(name):
+    """The operator's own name: before it there may stand what it is applied to."""
+    return name.split(" ")[-1]
 
 
 def arity(section):
-    return ARITY.get(plain(section), 2)
+    return ARITY.get(plain(section.name), 2)
 
 
 def vectors(section):
-    """Each result with its operands and what document 01 says."""
-    n, operator = len(section.values), reference.OPERATORS[plain(section)]
+    """Each result with its operands and what the documents say."""
+    n, operator = len(section.values), reference.OPERATORS[plain(section.name)]
     for p, got in enumerate(section.results):
         places = [p // n ** k % n for k in range(arity(section))][::-1]
         operands = [section.values[i] for i in places]
@@ -84,24 +87,64 @@ def vectors(section):
 
 
 def loops(path):
-    """The results of NumericForLoop with their operands and what document 01 says."""
+    """The results of NumericForLoop with their operands and what the documents say."""
     for line in open(path):
         *words, got = line.split()
         operands = [(int(words[i]), int(words[i + 1], 16)) for i in (0, 2, 4)]
         yield operands, got, reference.numeric_for_loop(*operands)
 
 
+# Lua, and the law of `%`.
+
+def left_out(section, operands):
+    """What no list of Lua 5.3 has, and nothing else is missing from it."""
+    if section.source != "lua" or plain(section.name) != "modulo" or not all(map(reference.is_numeric, operands)):
+        return False
+    return product_vanishes(*map(reference.to_number, operands))
+
+
+def held(path):
+    """Lua's list. It must have the reference's answers, and `-` just where Lua 5.3 has another."""
+    found = sections(path)
+    assert list_of(found) == open(path).read()
+    for s in found:
+        for operands, got, want in vectors(s):
+            if got != ("-" if left_out(s, operands) else want):
+                sys.exit("Lua differs: %s %s %s: %s, not %s" % (s.source, s.name, operands, got, want))
+            if plain(s.name) == "modulo" and want[0] == "n":
+                check_law(*map(reference.to_number, operands), int(want[1:], 16))
+    return found
+
+
+def check_law(x, y, word):
+    """`%` of finite numbers is what a division rounded down leaves, rounded once; but a zero has the sign of the dividend."""
+    if not (is_finite(x) and is_finite(y)) or y % TOP == 0:
+        return
+    a, b = reference.exact(x), reference.exact(y)
+    rest = a - b * (a // b)
+    lawful = word == (reference.rounded(rest) if rest else reference.signed_word(reference.negative(x), 0))
+    lawful &= min(0, b) <= reference.exact(word) <= max(0, b)
+    # The divisor itself only where the rest is nearer to it than to the next number toward zero, or in the middle.
+    lawful &= word != y or 2 * abs(b - rest) <= reference.size(y) - reference.size(y - 1)
+    if not lawful:
+        sys.exit("no remainder: %016x %% %016x is %016x" % (x, y, word))
+
+
+def is_finite(word):
+    return word % TOP < reference.INFINITY
+
+
 # Where the Rust differs.
 
 def rule_of(name, operands):
     for holds, text in RULES:
-        if holds(name, operands):
+        if holds(plain(name), operands):
             return text
     sys.exit("no rule: %s %s" % (name, operands))
 
 
 def differences_of(name, checked, released):
-    """The Rust's results with `-` wherever it differs from document 01, and the differences."""
+    """The Rust's results with `-` wherever it differs from the documents, and the differences."""
     kept, differences = [], []
     for (operands, got, want), (_, loose, _) in zip(checked, released, strict=True):
         if got not in ("p", loose):
@@ -126,7 +169,7 @@ def weight(operands):
     def exact(v):
         if v[0] == INTEGER:
             return Fraction(signed(v[1]))
-        return reference.exact(v[1]) if v[1] % 2**63 < reference.INFINITY else Fraction(2) ** 1024
+        return reference.exact(v[1]) if is_finite(v[1]) else Fraction(2) ** 1024
     whole = [exact(v) for v in operands]
     return (sum(abs(q) for q in whole), [-q for q in whole])
 
@@ -148,23 +191,24 @@ def expected(all_sections):
 def table(differences, facts):
     lines = [
         "<!-- Written by compare.py. -->",
-        "# Where the Rust differs from document 01, on the operands of values.txt",
+        "# Where the Rust differs from the documents, on the operands of values.txt and remainders.txt",
         "",
         "Built twice: with overflow checks, and as a release. Where the first doesn't panic the two agree, and its answers",
-        "are the list that is kept. `vectors` counts those that differ from document 01, `panics` how many of them are",
-        "panics, and `by chance` how many the release, where nothing is checked, has right all the same.",
+        "are the list that is kept. `vectors` counts those that differ from the documents, `panics` how many of them are",
+        "panics, and `by chance` how many the release, where nothing is checked, has right all the same. Hard numbers are",
+        "those of remainders.txt.",
         "",
-        "| The Rust | operator | vectors | panics | by chance | smallest | document 01 | Rust | release |",
+        "| The Rust | operator | vectors | panics | by chance | smallest | documents | Rust | release |",
         "|---|---|---|---|---|---|---|---|---|",
     ]
     for _, rule in RULES:
-        for name in SIGN:
+        for name in [*SIGN, HARD]:
             group = [d for d in differences if d.rule == rule and d.name == name]
             if group:
                 d = smallest(group)
                 lines.append("| %s | %s | %d | %d | %d | `%s` | %s | %s | %s |" % (
                     rule, name, len(group), sum(d.checked == "p" for d in group),
-                    sum(d.released == d.wanted for d in group), shown_vector(name, d.operands),
+                    sum(d.released == d.wanted for d in group), shown_vector(plain(name), d.operands),
                     shown_result(d.wanted), shown_result(d.checked), shown_result(d.released)))
     lines += [
         "",
@@ -186,23 +230,18 @@ def main(folder):
     def facts_of(name):
         return [line.split("\t") for line in open(path(name)).read().splitlines()]
 
-    lua = sections(path("lua.list"))
-    assert list_of(lua) == open(path("lua.list")).read()
-    for s in lua:
-        for operands, got, want in vectors(s):
-            if got not in (want, "-"):
-                sys.exit("Lua differs: %s %s: %s, not %s" % (s.name, operands, got, want))
+    lua = [held(path(name)) for name in ("lua5.3.list", "lua5.4.list")]
 
     rust, differences = [], []
     for s, r in zip(sections(path("checked.list")), sections(path("released.list")), strict=True):
-        results, found = differences_of(plain(s), vectors(s), vectors(r))
+        results, found = differences_of(s.name, vectors(s), vectors(r))
         rust.append(s._replace(results=results))
         differences += found
     differences += differences_of("NumericForLoop", loops(path("checked.loops")), loops(path("released.loops")))[1]
 
     facts = [(a[0], a[1], b[1]) for a, b in zip(facts_of("checked.facts"), facts_of("released.facts"), strict=True)]
-    open(path("stdin"), "w").write(list_of(lua) + list_of(rust))
-    open(path("stdout"), "w").write(expected(lua + rust))
+    open(path("stdin"), "w").write("".join(map(list_of, [*lua, rust])))
+    open(path("stdout"), "w").write(expected(sum(lua, []) + rust))
     open(path("differences.md"), "w").write(table(differences, facts))
 
 

@@ -1,15 +1,17 @@
--- What Lua 5.3 answers: every operator of the machine on every pair of values.txt, past-the-end of loops, and the
--- order of strings. README.md has the format.
+-- What Lua 5.3 answers: every operator of the machine on every pair of values.txt, past-the-end of loops, the order of
+-- strings, and `%` on every pair of remainders.txt. Under Lua 5.4: `%` alone, on both. README.md has the format.
 --
--- Left out, by one rule: `%` of two numeric operands that are not both integers. Document 01 takes the Rust's
--- formula there, ((a % b) + b) % b, and Lua has another. Strings are compared and never calculated with: Lua converts
--- them to numbers, and the machine does not.
+-- Left out, by one rule, and under Lua 5.3 alone: `%` where remainder and divisor have strictly opposite signs and their
+-- product rounds to zero. Lua 5.3 adds the divisor where that product is below zero; document 02 goes by the signs, and so
+-- does Lua 5.4. Strings are compared and never calculated with: Lua converts them to numbers, and the operators that the
+-- vectors go through take none.
 --
 -- A loop's test is not Lua's own `for` (document 01 keeps a mixed loop's limit as it is, and goes on at NaN): it is
 -- document 01's sentence, decided by Lua's `<`.
 
 local here = arg[0]:match("^(.*)/") or "."
-assert(_VERSION == "Lua 5.3" and os.setlocale("C", "all"))
+local source = assert(({ ["Lua 5.3"] = "lua", ["Lua 5.4"] = "lua5.4" })[_VERSION])
+assert(os.setlocale("C", "all"))
 
 local function lines_of(name)
   local file, found = assert(io.open(here .. "/" .. name)), {}
@@ -25,13 +27,14 @@ local function bytes_of(hex)
 end
 
 -- Operation and error number, both hexadecimal and of document 01; the name; the operator.
+local modulo = { "26 23", "modulo", function(a, b) return a % b end }
 local operators = {
   { "21 1e", "add", function(a, b) return a + b end },
   { "22 1f", "subtract", function(a, b) return a - b end },
   { "23 20", "multiply", function(a, b) return a * b end },
   { "24 21", "float_divide", function(a, b) return a / b end },
   { "25 22", "floor_divide", function(a, b) return a // b end },
-  { "26 23", "modulo", function(a, b) return a % b end },
+  modulo,
   { "28 25", "bitwise_and", function(a, b) return a & b end },
   { "29 26", "bitwise_or", function(a, b) return a | b end },
   { "2a 27", "bitwise_xor", function(a, b) return a ~ b end },
@@ -52,9 +55,11 @@ local function past_end(index, limit, step)
   if step < 0 then return index < limit else return limit < index end
 end
 
-local function left_out(name, a, b)
-  local s, t = math.type(a), math.type(b)
-  return name == "modulo" and s and t and not (s == "integer" and t == "integer")
+local function left_out(op, a, b)
+  if op ~= modulo or source ~= "lua" or not (math.type(a) and math.type(b)) then return false end
+  local divisor = b + 0.0
+  local r = math.fmod(a + 0.0, divisor)
+  return (r < 0 and divisor > 0 or r > 0 and divisor < 0) and r * divisor == 0
 end
 
 local function shown(ok, r)
@@ -66,7 +71,7 @@ local function shown(ok, r)
 end
 
 local function write_head(numbers, count, name)
-  io.write(string.format("o%s %06x lua %s\n", numbers, count, name))
+  io.write(string.format("o%s %06x %s %s\n", numbers, count, source, name))
 end
 
 local function write_pairs(list, values, prefix)
@@ -75,24 +80,31 @@ local function write_pairs(list, values, prefix)
     for i = 1, #values do
       for j = 1, #values do
         local a, b = values[i].is, values[j].is
-        io.write(left_out(op[2], a, b) and "-" or shown(pcall(op[3], a, b)))
+        io.write(left_out(op, a, b) and "-" or shown(pcall(op[3], a, b)))
       end
       io.write("\n")
     end
   end
 end
 
-local values, controls = {}, {}
-for _, line in ipairs(lines_of("values.txt")) do
-  local kind, word, mark = line:match("^(%d) (%x+) (.)")
-  local is
-  if kind == "1" then is = word:sub(-1) == "1" end
-  if kind == "2" then is = string.unpack(">i8", bytes_of(word)) end
-  if kind == "3" then is = string.unpack(">d", bytes_of(word)) end
-  local value = { is = is, line = "v" .. kind .. " " .. word .. "\n" }
-  values[#values + 1] = value
-  if mark == "*" then controls[#controls + 1] = value end
+-- The values of a file, and those of them that have a mark.
+local function values_of(name)
+  local values, marked = {}, {}
+  for _, line in ipairs(lines_of(name)) do
+    local kind, word, mark = line:match("^(%d) (%x+) (.)")
+    local is
+    if kind == "1" then is = word:sub(-1) == "1" end
+    if kind == "2" then is = string.unpack(">i8", bytes_of(word)) end
+    if kind == "3" then is = string.unpack(">d", bytes_of(word)) end
+    local value = { is = is, line = "v" .. kind .. " " .. word .. "\n" }
+    values[#values + 1] = value
+    if mark == "*" then marked[#marked + 1] = value end
+  end
+  return values, marked
 end
+
+local values, controls = values_of("values.txt")
+local remainders = values_of("remainders.txt")
 
 local strings = {}
 for _, line in ipairs(lines_of("strings.txt")) do
@@ -106,23 +118,35 @@ local function write_values(list)
   for _, value in ipairs(list) do io.write(value.line) end
 end
 
-write_values(values)
-for _, op in ipairs(unary) do
-  write_head(op[1], #values, op[2])
-  for _, value in ipairs(values) do io.write(shown(pcall(op[3], value.is))) end
-  io.write("\n")
-end
-write_pairs(operators, values, "")
-write_pairs(comparisons, values, "")
-
-write_values(controls)
-write_head("13 00", #controls * #controls * #controls, "past_end")
-for _, index in ipairs(controls) do
-  for _, limit in ipairs(controls) do
-    for _, step in ipairs(controls) do io.write(shown(pcall(past_end, index.is, limit.is, step.is))) end
+local function write_unary()
+  for _, op in ipairs(unary) do
+    write_head(op[1], #values, op[2])
+    for _, value in ipairs(values) do io.write(shown(pcall(op[3], value.is))) end
     io.write("\n")
   end
 end
 
-write_values(strings)
-write_pairs(comparisons, strings, "strings ")
+local function write_loops()
+  write_values(controls)
+  write_head("13 00", #controls * #controls * #controls, "past_end")
+  for _, index in ipairs(controls) do
+    for _, limit in ipairs(controls) do
+      for _, step in ipairs(controls) do io.write(shown(pcall(past_end, index.is, limit.is, step.is))) end
+      io.write("\n")
+    end
+  end
+end
+
+write_values(values)
+if source == "lua" then
+  write_unary()
+  write_pairs(operators, values, "")
+  write_pairs(comparisons, values, "")
+  write_loops()
+  write_values(strings)
+  write_pairs(comparisons, strings, "strings ")
+else
+  write_pairs({ modulo }, values, "")
+end
+write_values(remainders)
+write_pairs({ modulo }, remainders, "hard numbers ")

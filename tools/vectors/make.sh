@@ -4,14 +4,16 @@
 #   tools/vectors/make.sh RUST            writes crates/vectors/stdin and stdout, and tools/vectors/differences.md
 #   tools/vectors/make.sh RUST --check    writes nothing, and fails where one of the three would change
 #
-# RUST is the folder `src` of piccolo 0.3.3. Needs lua5.3, rustc (no registry) and python3.
+# RUST is the folder `src` of piccolo 0.3.3. Needs lua5.3, lua5.4, rustc (no registry) and python3.
 set -eu
 here=$(cd "$(dirname "$0")" && pwd)
 kept=$here/../../crates/vectors
 work=$(mktemp -d)
 trap 'rm -r "$work"' EXIT
 
-lua5.3 "$here/lua_vectors.lua" > "$work/lua.list"
+for lua in lua5.3 lua5.4; do
+  "$lua" "$here/lua_vectors.lua" > "$work/$lua.list"
+done
 "$here/build.sh" "$1" "$work"
 for name in checked released; do
   "$work/$name" lists "$here" > "$work/$name.list"

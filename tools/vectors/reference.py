@@ -1,7 +1,8 @@
-"""Document 01's arithmetic and order, exactly: whole numbers, fractions and bit patterns, no floats of the host.
+"""The documents' arithmetic and order, exactly: whole numbers, fractions and bit patterns, no floats of the host.
 
-Written from document 01 ("Arithmetic and order") and the Lua 5.3 manual, and from nothing else of this project, so
-that three lists can be held against each other: Lua's, the Rust's and this one. `compare.py` does that.
+Written from document 01 ("Arithmetic and order"), for `%` of numbers from document 02, 3/12, from the Lua 5.3 manual, and
+from nothing else of this project, so that three lists can be held against each other: Lua's, the Rust's and this one.
+`compare.py` does that.
 
 A value is (kind, word) as in values.txt, or (4, bytes). An answer is what the lists have: `i` or `n` and 16 digits,
 `t`, `f`, or `e` for an error.
@@ -125,7 +126,7 @@ def floor_number(x):
 
 
 def remainder(x, y):
-    """`%` of two floats in Rust: exact, with the sign of the dividend."""
+    """`%` of two numbers as the language gives it: exact, with the sign of the dividend."""
     if is_nan(x) or is_nan(y) or is_infinite(x) or y % TOP == 0:
         return ONE_NAN
     if is_infinite(y):
@@ -137,8 +138,17 @@ def floor_divide_numbers(x, y):
     return floor_number(divide_numbers(x, y))
 
 
+def opposed(x, y):
+    """Whether two numbers have strictly opposite signs: a zero has none, NaN neither."""
+    if is_nan(x) or is_nan(y) or x % TOP == 0 or y % TOP == 0:
+        return False
+    return negative(x) != negative(y)
+
+
 def modulo_numbers(x, y):
-    return remainder(add_numbers(remainder(x, y), y), y)
+    """Document 02: r = a % b, "and r + b rounded once where r and b have strictly opposite signs"."""
+    r = remainder(x, y)
+    return add_numbers(r, y) if opposed(r, y) else r
 
 
 # Values.

@@ -1,5 +1,6 @@
-// Replays the outside vectors on standard input through the crates `constant` and `comparison`: what Lua 5.3 and the
-// Rust original answer, operator by operator. tools/vectors/README.md has the format. A line is written for each operator.
+// Replays the outside vectors on standard input through the crates `constant` and `comparison`: what Lua 5.3, Lua 5.4
+// and the Rust original answer, operator by operator. tools/vectors/README.md has the format. A line is written for each
+// operator.
 //
 // The values of a list lie in two slices: in `bytes` a kind for each of 256 values, then the strings' bytes; in `words`
 // a word for each of them, then for each string where its bytes lie. So the number of a string's constant is 256 more

@@ -2,9 +2,10 @@
 //! `thread/vm.rs` are the original's files, unchanged: build.sh puts them beside the others, which stand in for files of
 //! it that are not here. Those only hand values on, but for what Call and Return do (thread/thread.rs).
 //!
-//! `oracle lists FOLDER` writes every operator on every pair of FOLDER/values.txt and FOLDER/strings.txt, in the format
-//! of lua_vectors.lua; `p` is a panic. `oracle loops FOLDER` writes NumericForLoop on every index, limit and step that
-//! values.txt marks: the new index, and whether it is past the end. `oracle facts` writes what single inputs give.
+//! `oracle lists FOLDER` writes every operator on every pair of FOLDER/values.txt and FOLDER/strings.txt, and `%` on every
+//! pair of FOLDER/remainders.txt, in the format of lua_vectors.lua; `p` is a panic. `oracle loops FOLDER` writes
+//! NumericForLoop on every index, limit and step that values.txt marks: the new index, and whether it is past the end.
+//! `oracle facts` writes what single inputs give.
 //! `oracle images` and `oracle steps` run whole images and single steps from standard input: images.rs says how.
 //! `oracle figures` writes what `read_integer` and `read_float` make of each line of standard input, a string in hexadecimal.
 #![allow(dead_code)]
@@ -136,13 +137,18 @@ fn table<'gc>(numbers: &str, name: &str, values: &[Value<'gc>], f: impl Fn(Value
     }
 }
 
-fn lists(folder: &str) {
-    let lines = read(folder, "values.txt");
-    let values: Vec<Value> = lines.iter().map(|line| value_of(line)).collect();
+/// The values of a file, which it writes too.
+fn values_of(folder: &str, name: &str) -> Vec<Value<'static>> {
+    let lines = read(folder, name);
     println!("w{:02x}", lines.len());
-    for line in lines {
+    for line in &lines {
         println!("v{}", &line[0..18]);
     }
+    lines.iter().map(|line| value_of(line)).collect()
+}
+
+fn lists(folder: &str) {
+    let values = values_of(folder, "values.txt");
     for (numbers, name, op) in UNARY {
         head(numbers, values.len(), name);
         println!("{}", values.iter().map(|&a| or_panic(|| shown_value(op(a)))).collect::<Text>());
@@ -165,6 +171,9 @@ fn lists(folder: &str) {
     for (numbers, name, op) in TESTS {
         table(numbers, &format!("strings {}", name), &strings, |a, b| shown_bool(op(a, b)));
     }
+
+    let remainders = values_of(folder, "remainders.txt");
+    table("26 23", "hard numbers modulo", &remainders, |a, b| shown_value(raw_ops::modulo(a, b)));
 }
 
 /// NumericForLoop at instruction 0 with offset 1: the new index, and whether the loop is past its end.
@@ -210,6 +219,17 @@ fn facts() {
     let integer = Value::Integer;
     let fact = |input: &str, f: &dyn Fn() -> Text| println!("{}\t{}", input, or_panic(f));
     fact("1 % 9223372036854775807", &|| shown_value(raw_ops::modulo(integer(1), integer(i64::MAX))));
+    for (a, b) in [
+        (1.0, f64::INFINITY),
+        (-1.0, f64::INFINITY),
+        (-4.0, 2.0),
+        (4.0, -2.0),
+        (1e-20, 1.0),
+        (-1e-20, 1.0),
+        (1e308, 1.7e308),
+    ] {
+        fact(&format!("{:?} % {:?}", a, b), &|| shown_value(raw_ops::modulo(Value::Number(a), Value::Number(b))));
+    }
     fact("1 << 64", &|| shown_value(raw_ops::shift_left(integer(1), integer(64))));
     fact("1 >> 64", &|| shown_value(raw_ops::shift_right(integer(1), integer(64))));
     for (name, op, right) in [
