@@ -1,4 +1,4 @@
--- The demands on one page: a proof of each statement of specs/Statements. Assumes nothing.
+-- The demands on one page: a proof of each statement of specs/Statements, and of document 02's law of loops (specs/Chunks, specs/Needed). Assumes nothing.
 use mathlib.Core.Path.{_≡_, refl}
 use mathlib.Core.List.{List, []}
 use Prim.Native.Nat.{ℕ}
@@ -12,12 +12,19 @@ use Rattle.worked.specs.Worked as claim
 use Rattle.laws.specs.Statements as statements
 use Rattle.laws.specs.Statements.{afterRuns}
 use Rattle.laws.specs.Session as session
+use Rattle.laws.specs.Chunks as chunks
+use Rattle.laws.specs.Needed as needed
 use Rattle.laws.proofs.NoFault as ends
 use Rattle.laws.proofs.Runs.{run-whole}
 use Rattle.laws.proofs.Started.{begun-demanded}
 use Rattle.laws.proofs.Splits as splits
 use Rattle.laws.proofs.Counts as counts
 use Rattle.laws.proofs.Example as example
+use Rattle.laws.proofs.EveryChunk as loops
+use Rattle.laws.proofs.Stories as stories
+use Rattle.laws.proofs.Listing as listing
+use Rattle.laws.proofs.Carrying as carrying
+use Rattle.laws.proofs.Needed as computed
 
 -- ---- demand 1: the sizes
 
@@ -93,3 +100,46 @@ unfolding afterRuns
 session-resumes lent s l h a b =
     let S = session.sessionIn lent in
     resumes S [] [] s (begun (S .table) [] [] s) (session-starts lent s l h) [] a b
+
+-- ---- document 02, 4/12: every chunk number, each once
+
+pub every-chunk : chunks.EveryChunk
+every-chunk = loops.every-chunk
+
+pub chunks-so-far : chunks.ChunksSoFar
+chunks-so-far = loops.chunks-so-far
+
+pub one-story : chunks.OneStory
+one-story = stories.one-story
+
+pub closed-form : chunks.ClosedForm
+closed-form = listing.closed-form
+
+pub runs-carry : chunks.RunsCarry
+runs-carry = carrying.runs-carry
+
+pub chunks-in-runs : chunks.ChunksInRuns
+chunks-in-runs = carrying.chunks-in-runs
+
+-- the premises can be met, and none can be left out
+
+pub thirteen-chunks : needed.ThirteenChunks
+thirteen-chunks = computed.thirteen-chunks
+
+pub wraps-around : needed.WrapsAround
+wraps-around = computed.wraps-around
+
+pub sum-needed : needed.SumNeeded
+sum-needed = computed.sum-needed
+
+pub step-needed : needed.StepNeeded
+step-needed = computed.step-needed
+
+pub moves-index : needed.MovesIndex
+moves-index = computed.moves-index
+
+pub keeping-needed : needed.KeepingNeeded
+keeping-needed = computed.keeping-needed
+
+pub returning-needed : needed.ReturningNeeded
+returning-needed = computed.returning-needed

@@ -17,4 +17,13 @@ pub mod Counts
 pub mod Splits
 pub mod Example
 pub mod Examples
+pub mod Whole
+pub mod Listing
+pub mod Stories
+pub mod Visits
+pub mod EveryChunk
+pub mod Carrying
+pub mod Walks
+pub mod Trails
+pub mod Needed
 pub mod Laws

@@ -9,7 +9,7 @@ use Rattle.laws.specs.Statements.{afterRuns, NoFault, StaysFit, Ends, fi
 use Rattle.laws.proofs.Runs.{run-whole, after-fit}
 use Rattle.laws.proofs.Started.{begun-demanded, begun-fit}
 
-ends-apart : (b : ℕ) (o : Outcome) → Ends b o → o .number ≡ 60 → ⊥
+pub ends-apart : (b : ℕ) (o : Outcome) → Ends b o → o .number ≡ 60 → ⊥
 ends-apart b o (finished e) z = omega arith
 ends-apart b o (failed e) z = error-no-fault (o .number) e z
 ends-apart b o (used e c) z = omega arith

@@ -3,3 +3,6 @@ pub mod Statements
 pub mod Session
 pub mod Examples
 pub mod Holds
+pub mod Passes
+pub mod Chunks
+pub mod Needed

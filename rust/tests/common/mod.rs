@@ -34,13 +34,19 @@ pub fn rules() -> Vec<(&'static str, Vec<u8>, String)> {
         let path = folder.join(name);
         std::fs::read(&path).unwrap_or_else(|error| panic!("{}: {error}", path.display()))
     };
-    ["seven-years", "by-class", "thin-backups", "years-as-text"]
-        .into_iter()
-        .map(|name| {
-            let result = String::from_utf8(file(format!("{name}.result"))).unwrap();
-            (name, file(format!("{name}.image")), result)
-        })
-        .collect()
+    [
+        "seven-years",
+        "by-class",
+        "thin-backups",
+        "years-as-text",
+        "sundays",
+    ]
+    .into_iter()
+    .map(|name| {
+        let result = String::from_utf8(file(format!("{name}.result"))).unwrap();
+        (name, file(format!("{name}.image")), result)
+    })
+    .collect()
 }
 
 /// The first line that the program writes: answer, count, prototype, and instruction or line.
