@@ -160,7 +160,7 @@ fn the_sundays_in_random_parts() {
     // by whatever budgets, after so many instructions the variable holds the same
     let mut random = Random::new(20_261_117);
     for _ in 0..50 {
-        for (count, number) in table {
+        for (count, number) in table.into_iter().chain([(33, 84)]) {
             let mut machine = Machine::start(&image, &[]).unwrap();
             let mut rest = count;
             while rest > 0 {

@@ -19,11 +19,11 @@ use Rattle.state.specs.States.{State}
 use Rattle.fitness.specs.Fit.{decodedAt}
 use Rattle.fitness.proofs.Facts.{fit-facts}
 use Rattle.laws.specs.Passes.{LoopAt, Controls, visits, lives, Comes, here, later}
-use Rattle.laws.specs.Chunks.{isPast, Setting, Fits64, EveryChunk, ChunksSoFar}
+use Rattle.laws.specs.Chunks.{isPast, Setting, Fits64, firstVisit, Turns, EveryChunk, ChunksSoFar}
 use Rattle.laws.proofs.Whole.{least-of, swap, le-add, le-trans, le-lt-trans, lt-trans, less-by}
-use Rattle.laws.proofs.Listing.{past-up, listed}
+use Rattle.laws.proofs.Listing.{past-up}
 use Rattle.laws.proofs.Steps.{Running}
-use Rattle.laws.proofs.Stories.{comes-once, step-running, Turns, told, so-far}
+use Rattle.laws.proofs.Stories.{comes-once, comes-steps, step-running, so-far, any-edition}
 use Rattle.laws.proofs.Visits.{held-small, StandsAt, opener, prep-step, prep-visit, prep-controls, visit-turns}
 
 -- ---- what doesn't wrap
@@ -127,30 +127,20 @@ module _ (S : Storage) (L : LoopAt) (s : State) (start limit step : ℤ) (h : Se
 
 pub every-chunk : EveryChunk
 every-chunk S L s start limit step h bounded passes =
-    let e = e S L s start limit step h in
-    let come = opens S L s start limit step h in
-    let back = passes 1 e come in
-    let list = listed limit step (bounded .nonzero) start in
-    let d = demanded S L s start limit step h in
-    let whole =
-    told S L d limit step (onward S L s start limit step h (bounded .fits)) (list .1) e (first-running S L s start limit step h)
-    (opening S L s start limit step h) (back .returning) (back .keeping) in
-    record {
+    any-edition firstVisit S L s start limit step h (bounded .nonzero)
+    (record {
       before = 1;
-      opener = e;
-      opened = come;
-      numbers = list .0;
-      steps = whole .steps;
-      after = whole .after;
-      story = whole .story;
-      behind = whole .behind;
-      exactly = list .1;
-    }
+      opener = e S L s start limit step h;
+      opened = opens S L s start limit step h;
+      reached = comes-steps S L (opens S L s start limit step h);
+      turns = opening S L s start limit step h;
+      onward = (λ u v fit runs. onward S L s start limit step h (bounded .fits) u v (record { fit = fit-facts S u fit; runs = runs }));
+    })
+    passes
 
 pub chunks-so-far : ChunksSoFar
-chunks-so-far S L s start limit step h bounded k e come keep xs n t r =
-    let d = demanded S L s start limit step h in
+chunks-so-far S L s start limit step h bounded k e come xs n t r kept =
     let same = comes-once S L (opens S L s start limit step h) come in
-    so-far S L d limit step (onward S L s start limit step h (bounded .fits)) (bounded .nonzero) r start
+    so-far S L (demanded S L s start limit step h) limit step (onward S L s start limit step h (bounded .fits)) (bounded .nonzero) r kept start
     (subst (Running S) (same .visit) (first-running S L s start limit step h))
-    (subst (λ (x : State). Turns S L limit step x start) (same .visit) (opening S L s start limit step h)) keep
+    (subst (λ (x : State). Turns S L limit step x start) (same .visit) (opening S L s start limit step h))

@@ -103,6 +103,9 @@ session-resumes lent s l h a b =
 
 -- ---- document 02, 4/12: every chunk number, each once
 
+pub any-edition : chunks.AnyEdition
+any-edition = stories.any-edition
+
 pub every-chunk : chunks.EveryChunk
 every-chunk = loops.every-chunk
 

@@ -1,6 +1,6 @@
 -- The list of chunk numbers by itself: there is one for every start, limit and step other than 0; how many numbers it has, which, in order, each once. Assumes nothing.
 use mathlib.Core.Path.{_≡_, refl, sym, ap, _∙_, subst}
-use mathlib.Core.Bool.{true, false, cond}
+use mathlib.Core.Bool.{true, false}
 use mathlib.Core.List.{List, [], _∷_}
 use Prim.Native.Nat.{ℕ, zero, suc, _+_, _-_, _*_, _<_}
 use native.Mathlib.Omega.{arith}
@@ -15,7 +15,7 @@ use Rattle.integer.proofs.Order.{lt-plus, minus-self-plus, times-more}
 use Rattle.integer.proofs.FloorLaws.{floor-positive, floor-positive-only, floor-negative, floor-negative-only}
 use Rattle.constant.specs.declared.Value.{Value}
 use Rattle.constant.specs.declared.Value.the-variants.{Nil, Boolean, Integer, Number, String, Function}
-use Rattle.laws.specs.Chunks.{isPast, Chunks, noChunk, oneMore, NotZero, isFurther, chunkAt, ClosedForm}
+use Rattle.laws.specs.Chunks.{isPast, Chunks, noChunk, nextChunk, NotZero, isFurther, chunkAt, howMany, ClosedForm}
 use Rattle.laws.proofs.Whole.{less-of, least-of, of-less, swap, cancel, pos-injective, le-far, lt-far, le-add, lt-add, less-by}
 
 -- ---- past the limit, by the step's sign
@@ -51,11 +51,11 @@ module _ (limit step : ℤ) (nonzero : NotZero limit step) where
   listed-on : (fuel : ℕ) (x : ℤ) (n : ℕ) → n < fuel → isPast limit step x ≡ false → Ahead limit step x n → (xs : List Value) × Chunks limit step x xs
   listed-on zero x n l p h = absurd (omega arith)
   listed-on (suc fuel) x n l p h =
-      by-bool (isPast limit step (x +ℤ step)) (λ q. (Integer x ∷ [], oneMore p (noChunk q)))
+      by-bool (isPast limit step (x +ℤ step)) (λ q. (Integer x ∷ [], nextChunk p (noChunk q)))
       (λ q. let a = ahead limit step (x +ℤ step) q in
       let less : a .0 < n = ahead-less limit step x n (a .0) nonzero h (a .1) in
       let rest = listed-on fuel (x +ℤ step) (a .0) (omega arith) q (a .1) in
-      (Integer x ∷ rest .0, oneMore p (rest .1)))
+      (Integer x ∷ rest .0, nextChunk p (rest .1)))
 
   pub listed : (x : ℤ) → (xs : List Value) × Chunks limit step x xs
   listed x =
@@ -105,15 +105,15 @@ closer a n m h =
     omega arith
 
 floor-last :
-    (limit step x : ℤ) → (step ≡ pos 0 → ⊥) → isPast limit step x ≡ false → isPast limit step (x +ℤ step) ≡ true
+    (limit step x : ℤ) → isPast limit step x ≡ false → isPast limit step (x +ℤ step) ≡ true
     → floorQ (limit -ℤ x) step ≡ pos 0
-floor-last limit (pos d) x z p q =
+floor-last limit (pos d) x p q =
     let a = le-far x limit (least-of limit x (sym (past-up limit x d) ∙ p)) in
     let gap : limit -ℤ x ≡ pos (a .0) = ap (λ (y : ℤ). y -ℤ x) (a .1 ∙ +ℤ-comm x (pos (a .0))) ∙ +ℤ-negℤ-cancel (pos (a .0)) x in
     let l : limit <ℤ (x +ℤ pos d) = less-of limit (x +ℤ pos d) (sym (past-up limit (x +ℤ pos d) d) ∙ q) in
     let less : a .0 < d = closer x (a .0) d (subst (λ (y : ℤ). y <ℤ (x +ℤ pos d)) (a .1) l) in
     ap (λ (y : ℤ). floorQ y (pos d)) gap ∙ ap pos (div-eq-of-lt less)
-floor-last limit (negsuc d) x z p q =
+floor-last limit (negsuc d) x p q =
     let a = le-far limit x (least-of x limit p) in
     let gap : limit -ℤ x ≡ negℤ (pos (a .0)) = ap (λ (y : ℤ). limit -ℤ y) (a .1) ∙ minus-self-plus limit (pos (a .0)) in
     let l : (x +ℤ negsuc d) <ℤ limit = less-of (x +ℤ negsuc d) limit q in
@@ -122,21 +122,18 @@ floor-last limit (negsuc d) x z p q =
     ap (λ (y : ℤ). floorQ y (negsuc d)) gap ∙ quotient-down (a .0) d less
 
 module _ (limit step : ℤ) (nonzero : NotZero limit step) where
-  abbrev count : ℤ → ℤ
-  count x = cond (isPast limit step x) (pos 0) (floorQ (limit -ℤ x) step +ℤ pos 1)
-
   -- limit - (x + step) is a step less than limit - x
   nearer : (x : ℤ) → limit -ℤ x -ℤ step ≡ limit -ℤ (x +ℤ step)
   nearer x = +ℤ-assoc limit (negℤ x) (negℤ step) ∙ ap (λ (y : ℤ). limit +ℤ y) (sym (negℤ-+ℤ x step))
 
-  counts : (x : ℤ) → isPast limit step x ≡ false → floorQ (limit -ℤ x) step ≡ count (x +ℤ step)
+  counts : (x : ℤ) → isPast limit step x ≡ false → floorQ (limit -ℤ x) step ≡ howMany (x +ℤ step) limit step
   counts x p =
-      by-bool (isPast limit step (x +ℤ step)) (λ q. rw q (floor-last limit step x nonzero p q))
+      by-bool (isPast limit step (x +ℤ step)) (λ q. rw q (floor-last limit step x p q))
       (λ q. rw q (floor-more (limit -ℤ x) step nonzero ∙ ap (λ (y : ℤ). floorQ y step +ℤ pos 1) (nearer x)))
 
-  pub how-many : {x : ℤ} {xs : List Value} → Chunks limit step x xs → pos (length xs) ≡ count x
+  pub how-many : {x : ℤ} {xs : List Value} → Chunks limit step x xs → pos (length xs) ≡ howMany x limit step
   how-many (noChunk q) = rw q
-  how-many {x = x} {xs = xs} (oneMore {xs = rest} p c) =
+  how-many {x = x} {xs = xs} (nextChunk {xs = rest} p c) =
       let e : length rest + 1 ≡ suc (length rest) = omega arith in
       rw p (ap pos (sym e) ∙ ap (λ (y : ℤ). y +ℤ pos 1) (how-many c ∙ sym (counts x p)))
 
@@ -151,30 +148,31 @@ module _ (limit step : ℤ) (nonzero : NotZero limit step) where
 
   each-is : {x : ℤ} {xs : List Value} → Chunks limit step x xs → (i : ℕ) → i < length xs → getD xs i Nil ≡ Integer (chunkAt x step i)
   each-is (noChunk q) i h = absurd (omega arith)
-  each-is {x = x} (oneMore p c) zero h = ap Integer (number-first x)
-  each-is {x = x} (oneMore {xs = rest} p c) (suc i) h =
+  each-is {x = x} (nextChunk p c) zero h = ap Integer (number-first x)
+  each-is {x = x} (nextChunk {xs = rest} p c) (suc i) h =
       let l : i < length rest = omega arith in
       each-is c i l ∙ ap Integer (number-next x i)
 
   not-past : {x : ℤ} {xs : List Value} → Chunks limit step x xs → (i : ℕ) → i < length xs → isPast limit step (chunkAt x step i) ≡ false
   not-past (noChunk q) i h = absurd (omega arith)
-  not-past {x = x} (oneMore p c) zero h = subst (λ (y : ℤ). isPast limit step y ≡ false) (number-first x) p
-  not-past {x = x} (oneMore {xs = rest} p c) (suc i) h =
+  not-past {x = x} (nextChunk p c) zero h = subst (λ (y : ℤ). isPast limit step y ≡ false) (number-first x) p
+  not-past {x = x} (nextChunk {xs = rest} p c) (suc i) h =
       let l : i < length rest = omega arith in
       subst (λ (y : ℤ). isPast limit step y ≡ false) (number-next x i) (not-past c i l)
 
 -- ---- in order
 
+some-steps : (m d : ℕ) → suc m * suc d ≡ suc (suc m * d + m)
+some-steps m d = mul-suc (suc m) d ∙ omega arith
+
 -- a number that is some steps on is further on
 further : (step y : ℤ) (m : ℕ) → (step ≡ pos 0 → ⊥) → isFurther step y (y +ℤ pos (suc m) *ℤ step) ≡ true
 further (pos zero) y m z = absurd (z refl)
 further (pos (suc d)) y m z =
-    let e : suc m * suc d ≡ suc (suc m * d + m) = mul-suc (suc m) d ∙ omega arith in
     rw (le-ltb (suc d) 0 (omega arith))
-    (subst (λ (k : ℕ). ltZ y (y +ℤ pos k) ≡ true) (sym e) (of-less y (y +ℤ pos (suc (suc m * d + m))) (lt-plus y (suc m * d + m))))
+    (subst (λ (k : ℕ). ltZ y (y +ℤ pos k) ≡ true) (sym (some-steps m d)) (of-less y (y +ℤ pos (suc (suc m * d + m))) (lt-plus y (suc m * d + m))))
 further (negsuc d) y m z =
-    let e : suc m * suc d ≡ suc (suc m * d + m) = mul-suc (suc m) d ∙ omega arith in
-    subst (λ (k : ℕ). ltZ (y +ℤ negℤ (pos k)) y ≡ true) (sym e) (of-less (y +ℤ negsuc (suc m * d + m)) y (less-by y (suc m * d + m)))
+    subst (λ (k : ℕ). ltZ (y +ℤ negℤ (pos k)) y ≡ true) (sym (some-steps m d)) (of-less (y +ℤ negsuc (suc m * d + m)) y (less-by y (suc m * d + m)))
 
 -- i + m steps are i steps and m steps
 number-plus : (x step : ℤ) (i m : ℕ) → chunkAt x step (i + m) ≡ chunkAt x step i +ℤ pos m *ℤ step

@@ -11,13 +11,15 @@ use Rattle.storage.specs.Layout.{Storage}
 use Rattle.constant.specs.declared.Value.{Value}
 use Rattle.constant.specs.declared.Value.the-variants.{Nil, Integer}
 use Rattle.checker.specs.Kept.{Demanded}
+use Rattle.checker.proofs.Exact.{exact}
+use Rattle.fitness.proofs.Facts.{fit-facts, facts-fit}
 use Rattle.state.specs.States.{State}
 use Rattle.step.specs.Step.{Turn, on, stop, fault, stepOf}
 use Rattle.laws.specs.Statements as statements
 use Rattle.laws.specs.Statements.{Steps}
-use Rattle.laws.specs.Passes.{LoopAt, Controls, Unchanged, numberIn, visits, Comes, here, later, beginsPass, Reached, firstPass, laterPass, Story, leavesLoop, makesPass, Behind, Returning, Keeping}
+use Rattle.laws.specs.Passes.{LoopAt, Controls, Unchanged, numberIn, visits, Comes, here, later, beginsPass, Reached, firstPass, laterPass, KeptUntil, Story, leavesLoop, makesPass, Behind, Returning, Keeping}
 use Rattle.laws.specs.Chunks as chunks
-use Rattle.laws.specs.Chunks.{isPast, Chunks, NotZero, SameStory, OneStory}
+use Rattle.laws.specs.Chunks.{isPast, Chunks, NotZero, Turns, jumpsOn, goesBehind, AnyEdition, SameStory, OneStory}
 use Rattle.laws.proofs.Steps.{Running, Stays}
 use Rattle.laws.proofs.Runs.{step-stays}
 use Rattle.laws.proofs.Listing.{listed}
@@ -131,15 +133,6 @@ module _ (S : Storage) (demanded : Demanded S) where
   steps-running r statements.none = r
   steps-running r (statements.more h e) = step-running (steps-running r h) e
 
--- ---- what begins a pass or leaves the loop, by the number x that is next: if x isn't past the limit a pass begins, base and base + 3 hold
--- x, limit and step stay; else the machine goes on behind the loop instruction
-
-pub data Turns (S : Storage) (L : LoopAt) (limit step : ℤ) (s : State) (x : ℤ) : Type 0 where
-  jumps :
-      (t : State) → isPast limit step x ≡ false → beginsPass S s ≡ true → stepOf S s ≡ on t → Controls S L t x limit step
-      → numberIn S L t ≡ Integer x → Turns S L limit step s x
-  leaves : (t : State) → isPast limit step x ≡ true → beginsPass S s ≡ false → stepOf S s ≡ on t → Behind L t → Turns S L limit step s x
-
 -- ---- the common part: what a visit does is the edition's; here it goes on by one number
 
 module _
@@ -172,10 +165,10 @@ module _
   pub told :
       {x : ℤ} {xs : List Value} → Chunks limit step x xs → (e : State) → Running S e → Turns S L limit step e x → Returning S L e → Keeping S L e
       → Ending e xs
-  told {x = x} (chunks.noChunk p) e r (jumps t q b s c h) ret keep = clash (isPast limit step x) p q
-  told (chunks.noChunk p) e r (leaves t q b s g) ret keep = record { steps = 1; after = t; story = leavesLoop b s; behind = g }
-  told {x = x} (chunks.oneMore p c) e r (leaves t q b s g) ret keep = clash (isPast limit step x) q p
-  told {x = x} (chunks.oneMore {xs = xs} p c) e r (jumps t q b s h num) ret keep =
+  told {x = x} (chunks.noChunk p) e r (jumpsOn t q b s c h) ret keep = clash (isPast limit step x) p q
+  told (chunks.noChunk p) e r (goesBehind t q b s g) ret keep = record { steps = 1; after = t; story = leavesLoop b s; behind = g }
+  told {x = x} (chunks.nextChunk p c) e r (goesBehind t q b s g) ret keep = clash (isPast limit step x) q p
+  told {x = x} (chunks.nextChunk {xs = xs} p c) e r (jumpsOn t q b s h num) ret keep =
       let r' = step-running S demanded r s in
       let come = ret _ _ t (firstPass b s) in
       let d = come .2 in
@@ -193,20 +186,41 @@ module _
 
   -- as far as it has come
   pub so-far :
-      NotZero limit step → {e t : State} {xs : List Value} {n : ℕ} → Reached S L e xs n t → (x : ℤ) → Running S e → Turns S L limit step e x
-      → Keeping S L e → (ys : List Value) × Chunks limit step x (xs ++ ys)
-  so-far z {e = e} (firstPass b s) x r (leaves t q a f i) keep = clash (beginsPass S e) b a
-  so-far z {e = e} (laterPass b s d g) x r (leaves t q a f i) keep = clash (beginsPass S e) b a
-  so-far z {e = e} (firstPass {t = t} b s) x r (jumps w q a f h num) keep =
+      NotZero limit step → {e t : State} {xs : List Value} {n : ℕ} (r : Reached S L e xs n t) → KeptUntil S L r → (x : ℤ) → Running S e
+      → Turns S L limit step e x → (ys : List Value) × Chunks limit step x (xs ++ ys)
+  so-far z {e = e} (firstPass b s) k x r (goesBehind t q a f i) = clash (beginsPass S e) b a
+  so-far z {e = e} (laterPass b s d g) k x r (goesBehind t q a f i) = clash (beginsPass S e) b a
+  so-far z {e = e} (firstPass {t = t} b s) k x r (jumpsOn w q a f h num) =
       let rest = listed limit step z (x +ℤ step) in
       let is : Integer x ≡ numberIn S L t = sym num ∙ ap (numberIn S L) (same-turn S e w t f s) in
-      (rest .0, subst (λ (y : Value). Chunks limit step x (y ∷ rest .0)) is (chunks.oneMore q (rest .1)))
-  so-far z {e = e} (laterPass {t = t} {u = u} {n = n} {xs = xs} b s d g) x r (jumps w q a f h num) keep =
+      (rest .0, subst (λ (y : Value). Chunks limit step x (y ∷ rest .0)) is (chunks.nextChunk q (rest .1)))
+  so-far z {e = e} (laterPass {t = t} {xs = xs} b s d g) k x r (jumpsOn w q a f h num) =
       let same : w ≡ t = same-turn S e w t f s in
       let r' = step-running S demanded r s in
       let h' : Controls S L t x limit step = subst (λ (y : State). Controls S L y x limit step) same h in
-      let k = keep _ _ t (firstPass b s) n u d in
-      let rest =
-      so-far z g (x +ℤ step) (steps-running S demanded r' (comes-steps S L d)) (back r' q h' d k) (λ ys m v i. keep _ _ v (laterPass b s d i)) in
+      let rest = so-far z g (k .1) (x +ℤ step) (steps-running S demanded r' (comes-steps S L d)) (back r' q h' d (k .0)) in
       let is : Integer x ≡ numberIn S L t = sym num ∙ ap (numberIn S L) same in
-      (rest .0, subst (λ (y : Value). Chunks limit step x (y ∷ (xs ++ rest .0))) is (chunks.oneMore q (rest .1)))
+      (rest .0, subst (λ (y : Value). Chunks limit step x (y ∷ (xs ++ rest .0))) is (chunks.nextChunk q (rest .1)))
+
+-- ---- the law of any edition
+
+pub any-edition : AnyEdition
+any-edition opening S L s start limit step h nonzero by passes =
+    let d = exact S .0 (h .accepted) in
+    let all = passes (by .before) (by .opener) (by .opened) in
+    let list = listed limit step nonzero start in
+    let first : Running S s = record { fit = fit-facts S s (h .fit); runs = h .running } in
+    let whole =
+    told S L d limit step (λ u v r. by .onward u v (facts-fit S u (r .fit)) (r .runs)) (list .1) (by .opener)
+    (steps-running S d first (by .reached)) (by .turns) (all .returning) (all .keeping) in
+    record {
+      before = by .before;
+      opener = by .opener;
+      opened = by .opened;
+      numbers = list .0;
+      steps = whole .steps;
+      after = whole .after;
+      story = whole .story;
+      behind = whole .behind;
+      exactly = list .1;
+    }

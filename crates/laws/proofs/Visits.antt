@@ -38,12 +38,11 @@ use Rattle.reach.specs.Within.{Within}
 use Rattle.reach.proofs.Decoding.{decoded-within}
 use Rattle.step.specs.Step.{on, placed, goneOn, carriedOut, effectAt, stepOf}
 use Rattle.laws.specs.Passes.{LoopAt, Controls, registerIn, numberIn, visits, opensPass, beginsPass, Behind}
-use Rattle.laws.specs.Chunks.{isPast}
+use Rattle.laws.specs.Chunks.{isPast, Turns, jumpsOn, goesBehind}
 use Rattle.laws.proofs.Frames.{there-prototype, there-instruction}
 use Rattle.laws.proofs.Bounds.{few-instructions}
 use Rattle.laws.proofs.Moves.{following-small}
 use Rattle.laws.proofs.Steps.{Running}
-use Rattle.laws.proofs.Stories.{Turns, jumps, leaves}
 
 -- ---- an integer in a register is an i64, and an i64 that is stored is held
 
@@ -287,5 +286,5 @@ module _ (S : Storage) (L : LoopAt) where
 
     pub visit-turns : Turns S L limit step u sum
     visit-turns =
-        by-bool (isPast limit step sum) (λ p. let o = loop-over p in leaves left p (o .0) (o .1) left-behind)
-        (λ p. let o = loop-begins p in jumps begun p (o .0) (o .1) begun-controls begun-number)
+        by-bool (isPast limit step sum) (λ p. let o = loop-over p in goesBehind left p (o .0) (o .1) left-behind)
+        (λ p. let o = loop-begins p in jumpsOn begun p (o .0) (o .1) begun-controls begun-number)

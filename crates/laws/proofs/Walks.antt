@@ -1,19 +1,18 @@
 -- A story that is known step by step: every pass of it comes back, and whatever holds of its passes holds of every pass that is reached. So the law's premises can be
 -- shown of a loop at hand, and a law that asks for less refuted. Assumes nothing.
 use mathlib.Core.Path.{_≡_, refl, sym, ap, _∙_, subst}
-use mathlib.Core.Bool.{Bool, true, false, cond, false≢true}
+use mathlib.Core.Bool.{Bool, true, false, false≢true}
 use mathlib.Core.List.{List, [], _∷_}
 use Prim.Native.Nat.{ℕ, zero, suc, _+_}
 use lib.ListN.{length}
-use lib.IntN.{ℤ, pos, _+ℤ_, _-ℤ_}
-use Rattle.integer.specs.Floor.{floorQ}
+use lib.IntN.{ℤ, pos}
 use Rattle.storage.specs.Layout.{Storage}
 use Rattle.constant.specs.declared.Value.{Value}
 use Rattle.state.specs.States.{State}
 use Rattle.step.specs.Step.{Turn, on, stop, fault, stepOf}
 use Rattle.laws.specs.Passes.{LoopAt, Unchanged, numberIn, visits, Comes, here, later, beginsPass, Reached, firstPass, laterPass, Story, Returning, Keeping}
 use Rattle.laws.specs.Passes as passes
-use Rattle.laws.specs.Chunks.{isPast, NotZero, firstVisit, LawUnder}
+use Rattle.laws.specs.Chunks.{NotZero, firstVisit, LawUnder, howMany}
 use Rattle.laws.specs.Needed.{Shows}
 use Rattle.laws.proofs.Listing.{closed-form}
 use Rattle.laws.proofs.Stories.{to, same-turn, clash, comes-once, one-story}
@@ -92,7 +91,7 @@ module _ (S : Storage) (L : LoopAt) where
 pub refuted :
     (Limits : ℤ → ℤ → Type 0) (Passes : Storage → LoopAt → State → Type 0) (S : Storage) (L : LoopAt) (s : State) (start limit step : ℤ)
     (numbers : List Value) → Shows Limits Passes S L s start limit step numbers → NotZero limit step
-    → (pos (length numbers) ≡ cond (isPast limit step start) (pos 0) (floorQ (limit -ℤ start) step +ℤ pos 1) → ⊥)
+    → (pos (length numbers) ≡ howMany start limit step → ⊥)
     → LawUnder firstVisit Limits Passes → ⊥
 refuted Limits Passes S L s start limit step numbers x nonzero other law =
     let t = law S L s start limit step (x .setting) (x .limits) (x .passes) in

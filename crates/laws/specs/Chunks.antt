@@ -15,9 +15,10 @@ use Rattle.checker.specs.declared.Checked.the-variants.{Accepted}
 use Rattle.state.specs.Frames.{markIn}
 use Rattle.state.specs.States.{State}
 use Rattle.fitness.specs.Fit.{fitOf}
+use Rattle.step.specs.Step.{on, stepOf}
 use Rattle.step.specs.Run.{ended, answerOf, runOf}
 use Rattle.laws.specs.Statements.{afterRuns, joined, Steps}
-use Rattle.laws.specs.Passes.{LoopAt, Prepares, Controls, numberIn, Comes, Reached, Story, Behind, Returning, Keeping}
+use Rattle.laws.specs.Passes.{LoopAt, Prepares, Controls, numberIn, visits, Comes, beginsPass, Reached, KeptUntil, Story, Behind, Returning, Keeping}
 
 -- ---- "start, start + step, and so on, up to the last one not past the limit; none if start is past it": whole numbers, none of them wrapped
 
@@ -27,7 +28,7 @@ isPast limit step x = cond (ltZ step (pos 0)) (ltZ x limit) (ltZ limit x)
 
 pub data Chunks (limit step : ℤ) : ℤ → List Value → Type 0 where
   noChunk : {x : ℤ} → isPast limit step x ≡ true → Chunks limit step x []
-  oneMore : {x : ℤ} {xs : List Value} → isPast limit step x ≡ false → Chunks limit step (x +ℤ step) xs → Chunks limit step x (Integer x ∷ xs)
+  nextChunk : {x : ℤ} {xs : List Value} → isPast limit step x ≡ false → Chunks limit step (x +ℤ step) xs → Chunks limit step x (Integer x ∷ xs)
 
 -- ---- what is supposed
 
@@ -89,16 +90,48 @@ LawUnder opening Limits Passes =
     (S : Storage) (L : LoopAt) (s : State) (start limit step : ℤ) → Setting S L s start limit step → Limits limit step
     → ((n : ℕ) (e : State) → opening S L s n e → Passes S L e) → TellsAll opening S L s start limit step
 
+-- ---- what is common to all editions
+
+-- What is done at s with the number x that is next: if x isn't past the limit a pass begins, base and base + 3 hold x, limit and step stay; else the machine goes on
+-- behind the loop instruction.
+pub data Turns (S : Storage) (L : LoopAt) (limit step : ℤ) (s : State) (x : ℤ) : Type 0 where
+  jumpsOn :
+      (t : State) → isPast limit step x ≡ false → beginsPass S s ≡ true → stepOf S s ≡ on t → Controls S L t x limit step
+      → numberIn S L t ≡ Integer x → Turns S L limit step s x
+  goesBehind : (t : State) → isPast limit step x ≡ true → beginsPass S s ≡ false → stepOf S s ≡ on t → Behind L t → Turns S L limit step s x
+
+-- what an edition has to show of a loop: what opens the first pass is reached and does so with start, and a visit with a number that isn't past the limit goes on
+-- by one step
+pub record ByOne (opening : Opening) (S : Storage) (L : LoopAt) (s : State) (start limit step : ℤ) : Type 0 where
+  pub before : ℕ
+  pub opener : State
+  pub opened : opening S L s before opener
+  pub reached : Steps S s before opener
+  pub turns : Turns S L limit step opener start
+  pub onward :
+      (u : State) (v : ℤ) → fitOf S u ≡ true → markIn (u .frames) ≡ 70 → visits L u ≡ true → Controls S L u v limit step
+      → isPast limit step v ≡ false → Turns S L limit step u (v +ℤ step)
+
+-- then the story is told to its end, with the numbers of the list
+abbrev pub AnyEdition : Type 1
+AnyEdition =
+    (opening : Opening) (S : Storage) (L : LoopAt) (s : State) (start limit step : ℤ) → Setting S L s start limit step → NotZero limit step
+    → ByOne opening S L s start limit step → ((n : ℕ) (e : State) → opening S L s n e → AllBack S L e)
+    → TellsAll opening S L s start limit step
+
+-- ---- the law of Lua 5.3
+
 -- "register base + 3 holds at the starts of the passes exactly start, start + step, and so on, up to the last one not past the limit; none if start is past it"
 abbrev pub EveryChunk : Type 0
 EveryChunk = LawUnder firstVisit Bounded AllBack
 
--- Of a story that has not come to its end, or never does: where the passes that came back kept the controls, the numbers so far are the first ones of the list.
+-- Of a story that has not come to its end, or never does: where the passes before the last one kept the controls, the numbers so far are the first ones of the
+-- list, whatever the last one does.
 abbrev pub ChunksSoFar : Type 0
 ChunksSoFar =
     (S : Storage) (L : LoopAt) (s : State) (start limit step : ℤ) → Setting S L s start limit step → Bounded limit step
-    → (k : ℕ) (e : State) → firstVisit S L s k e → Keeping S L e
-    → (xs : List Value) (n : ℕ) (t : State) → Reached S L e xs n t → (ys : List Value) × Chunks limit step start (xs ++ ys)
+    → (k : ℕ) (e : State) → firstVisit S L s k e
+    → (xs : List Value) (n : ℕ) (t : State) (r : Reached S L e xs n t) → KeptUntil S L r → (ys : List Value) × Chunks limit step start (xs ++ ys)
 
 -- A state has one story at most: its values, its length and where it ends.
 pub record SameStory (xs ys : List Value) (n m : ℕ) (f g : State) : Type 0 where
@@ -121,9 +154,12 @@ isFurther step x y = cond (ltZ step (pos 0)) (ltZ y x) (ltZ x y)
 abbrev pub chunkAt : ℤ → ℤ → ℕ → ℤ
 chunkAt start step i = start +ℤ pos i *ℤ step
 
+-- none where start is past the limit, else (limit - start) // step + 1
+abbrev pub howMany : ℤ → ℤ → ℤ → ℤ
+howMany start limit step = cond (isPast limit step start) (pos 0) (floorQ (limit -ℤ start) step +ℤ pos 1)
+
 pub record ClosedNumbers (start limit step : ℤ) (xs : List Value) : Type 0 where
-  -- none where start is past the limit, else (limit - start) // step + 1
-  pub many : pos (length xs) ≡ cond (isPast limit step start) (pos 0) (floorQ (limit -ℤ start) step +ℤ pos 1)
+  pub many : pos (length xs) ≡ howMany start limit step
   -- start + i × step, and not past the limit
   pub each : (i : ℕ) → i < length xs → getD xs i Nil ≡ Integer (chunkAt start step i)
   pub within : (i : ℕ) → i < length xs → isPast limit step (chunkAt start step i) ≡ false

@@ -104,6 +104,12 @@ pub data Reached (S : Storage) (L : LoopAt) : State → List Value → ℕ → S
       {s t u v : State} {n m : ℕ} {xs : List Value} → beginsPass S s ≡ true → stepOf S s ≡ on t → Comes S L t n u → Reached S L u xs m v
       → Reached S L s (numberIn S L t ∷ xs) (1 + n + m) v
 
+-- each pass before the last one of them came back with the controls as they were when it began; of the last one nothing is said
+abbrev pub KeptUntil :
+    (S : Storage) (L : LoopAt) {s t : State} {xs : List Value} {n : ℕ} → Reached S L s xs n t → Type 0
+KeptUntil S L (firstPass b e) = Unit {0}
+KeptUntil S L (laterPass {t = t} {u = u} b e c r) = Unchanged S L t u × KeptUntil S L r
+
 -- The whole story from there, "until the machine first goes on after the loop instruction": n steps later it has done so, at f, and these are the values at the
 -- starts of all passes.
 pub data Story (S : Storage) (L : LoopAt) : State → List Value → ℕ → State → Type 0 where
