@@ -5,8 +5,8 @@
 #   examples/check.sh --run CMD     also gives each image to CMD on standard input and compares what it writes, as in --run ./deletion
 #   examples/check.sh --update      writes images and results first
 #
-# The values of a result (lines b0) are what the real lua5.3 returns for the rule's source. Its first line (f0: answer, count and place) is that of
-# tools/oracle, which must agree with Lua on the values. Nothing in it comes from the program that --run names.
+# The values of a result (lines b0) are what the real lua5.3 returns for the rule's source. Its first line (f0: answer, count, place and
+# operand) is that of tools/oracle, which must agree with Lua on the values. Nothing in it comes from the program that --run names.
 set -euo pipefail
 here=$(dirname "$0")
 tools=$here/../tools

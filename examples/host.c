@@ -18,7 +18,10 @@ static uint32_t answer[DM_ANSWER];
 
 static int ended(const char *what)
 {
-    printf("%s: %" PRIu32 " at prototype %" PRIu32 ", instruction or line %" PRIu32 "\n", what, answer[0], answer[2], answer[3]);
+    printf("%s: %" PRIu32 " at prototype %" PRIu32 ", instruction or line %" PRIu32, what, answer[0], answer[2], answer[3]);
+    if (answer[6] != DM_OPERAND_NONE) /* of two operands 1 is the left one; of a loop 1 index, 2 limit, 3 step */
+        printf(", operand %" PRIu32, answer[6]);
+    putchar('\n');
     return answer[0] == DM_DONE ? 0 : 1;
 }
 

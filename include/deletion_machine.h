@@ -17,8 +17,9 @@
  *     answer[2]  the prototype  } of the instruction that returned, raised, faulted, was refused or comes next;
  *     answer[3]  the instruction} for dm_read the line; 0 where nothing of the kind is at fault
  *     answer[4], answer[5]      as the function says; else unchanged
+ *     answer[6]  the operand that an operator error names (enum dm_operand); 0 where nothing is named
  *
- * answer[6] and all beyond stay as they are. Where `answer` is shorter than DM_ANSWER the number is 5, of dm_run and
+ * answer[7] and all beyond stay as they are. Where `answer` is shorter than DM_ANSWER the number is 5, of dm_run and
  * dm_returned 60, and nothing at all is touched. Where 5 or 6 is answered, everything lent but `answer` is untouched.
  *
  * What a host leaves alone. The thread that calls dm_run has the floating-point environment that a C program starts with:
@@ -81,7 +82,8 @@ enum dm_number {
 
     DM_BAD_ARGUMENT = 20,       /* start: more than 8, or one not nil, boolean, integer or number; dm_text: no string */
 
-    DM_ERROR_ADD = 30,          /* Lua errors: an operand is unfit; for 30 to 42 a string that reads as a figure is not */
+    DM_ERROR_ADD = 30,          /* Lua errors: an operand is unfit, and answer[6] names it; for 30 to 42 a string that reads as
+                                   a figure is not. A loop's controls give 31 at its beginning, 30 later */
     DM_ERROR_SUBTRACT = 31,
     DM_ERROR_MULTIPLY = 32,
     DM_ERROR_FLOAT_DIVIDE = 33,
@@ -96,6 +98,8 @@ enum dm_number {
     DM_ERROR_SHIFT_RIGHT = 42,
     DM_ERROR_LESS = 43,
     DM_ERROR_LESS_EQUAL = 44,
+    DM_ERROR_FLOOR_DIVIDE_BY_ZERO = 45, /* an integer is divided by an integer zero, which answer[6] names: 2. */
+    DM_ERROR_MODULO_BY_ZERO = 46,       /* 34 and 35 remain for unfit operands, which come first */
     DM_ERROR_NO_FUNCTION = 50,  /* Call of a value that is no function */
     DM_ERROR_CALLS = 51,        /* Call with 16 live activations */
     DM_ERROR_REGISTERS = 52,    /* Call that would pass 2,048 registers */
@@ -106,8 +110,22 @@ enum dm_number {
 
 /* whether a number is a Lua error's: `isLuaError` of the definitions */
 #define DM_IS_LUA_ERROR(number) \
-    (((number) >= DM_ERROR_ADD && (number) <= DM_ERROR_LESS_EQUAL) || \
+    (((number) >= DM_ERROR_ADD && (number) <= DM_ERROR_MODULO_BY_ZERO) || \
      ((number) >= DM_ERROR_NO_FUNCTION && (number) <= DM_ERROR_REGISTERS))
+
+/* ---- the operand that an operator error, 30 to 46, names in answer[6] ---- */
+
+/* The first unfit one. Of a comparison of two kinds that don't go together it is the right one where the left is an integer,
+ * number or string, else the left one. 45 and 46 name the right one. Left and right are the instruction's: in Lua's code a > b
+ * is b < a. The instruction also tells whether 30 or 31 is a loop's. */
+enum dm_operand {
+    DM_OPERAND_NONE = 0,   /* nothing is named: all other answers */
+    DM_OPERAND_LEFT = 1,   /* the left operand, or the only one */
+    DM_OPERAND_RIGHT = 2,
+    DM_OPERAND_INDEX = 1,  /* a loop's controls; its beginning looks at index and step alone */
+    DM_OPERAND_LIMIT = 2,
+    DM_OPERAND_STEP = 3
+};
 
 /* ---- what to lend, for a host that has nothing against static sizes ---- */
 
@@ -120,7 +138,8 @@ typedef struct dm_storage {
 } dm_storage;
 
 typedef struct dm_state {
-    uint64_t frames[DM_FRAMES];
+    uint64_t frames[DM_FRAMES]; /* frames[0], the mark: 70 while the machine runs, 0 when it has finished, else its Lua error's
+                                   number + 256 * the operand that it names */
     uint8_t kinds[DM_REGISTERS];
     uint64_t words[DM_REGISTERS];
 } dm_state;
@@ -166,8 +185,12 @@ uint32_t dm_start(const uint64_t *table, size_t table_length, const uint64_t *co
                   uint32_t *answer, size_t answer_length);
 
 /* Carries out at most `budget` instructions. 70: call it again to go on. 0: finished, dm_returned tells where the values are. A
- * Lua error's number (DM_IS_LUA_ERROR). 60: the state is not fit to run (then it is untouched), or the next instruction
- * breaks a rule. A finished or failed machine gives its answer again.
+ * Lua error's number (DM_IS_LUA_ERROR), and the operand that it names. 60: the state is not fit to run (then it is untouched), or
+ * the next instruction breaks a rule. A finished or failed machine gives its answer again.
+ *
+ * The mark keeps number and operand, so a failed machine answers both again, as they are kept. A mark is unfit where its number
+ * (frames[0] % 256) is neither 70 nor 0 nor a Lua error's, or what it keeps as operand (frames[0] / 256) is above 3. A running or
+ * finished machine names nothing, whatever is kept; a running one leaves it alone until it finishes or fails.
  *
  * Of an image that dm_check accepts, runs of a, then b, are one run of a + b. Of another image too, but for two cases, which
  * leave the same state and answer otherwise: after a Call into a prototype without instructions the second run finds the state

@@ -19,6 +19,9 @@ const FRAMES: usize = 34;
 const REGISTERS: usize = 2_308;
 const ANSWER: usize = 8;
 
+/// What `answer` holds before a call; no function answers it.
+const UNTOLD: u32 = u32::MAX;
+
 mod c {
     extern "C" {
         pub fn dm_read(
@@ -209,7 +212,7 @@ impl State {
     }
 }
 
-/// What a function answers. `first` and `second` are what it tells besides, where it tells any.
+/// What a function answers. `first` and `second` are what it tells besides; of one that tells nothing they mean nothing.
 pub(crate) struct Told {
     pub number: u32,
     pub count: u32,
@@ -218,6 +221,8 @@ pub(crate) struct Told {
     pub instruction: usize,
     pub first: usize,
     pub second: usize,
+    /// 0 where nothing is named
+    pub operand: u32,
 }
 
 fn told(number: u32, answer: [u32; ANSWER]) -> Told {
@@ -228,12 +233,13 @@ fn told(number: u32, answer: [u32; ANSWER]) -> Told {
         instruction: answer[3] as usize,
         first: answer[4] as usize,
         second: answer[5] as usize,
+        operand: answer[6],
     }
 }
 
 /// Reads an image into the storage.
 pub(crate) fn read(image: &[u8], storage: &mut Storage) -> Told {
-    let mut answer = [0; ANSWER];
+    let mut answer = [UNTOLD; ANSWER];
     // SAFETY: see the head of this file; the storage's five slices and the answer are borrowed alone.
     let number = unsafe {
         c::dm_read(
@@ -258,7 +264,7 @@ pub(crate) fn read(image: &[u8], storage: &mut Storage) -> Told {
 
 /// Writes the storage's image; `first` is how many bytes.
 pub(crate) fn write(storage: &Storage, out: &mut [u8]) -> Told {
-    let mut answer = [0; ANSWER];
+    let mut answer = [UNTOLD; ANSWER];
     // SAFETY: see the head of this file; `out` and the answer are borrowed alone.
     let number = unsafe {
         lend!(
@@ -275,7 +281,7 @@ pub(crate) fn write(storage: &Storage, out: &mut [u8]) -> Told {
 
 /// Whether the machine can carry the image out.
 pub(crate) fn check(storage: &Storage) -> Told {
-    let mut answer = [0; ANSWER];
+    let mut answer = [UNTOLD; ANSWER];
     // SAFETY: see the head of this file; the answer is borrowed alone.
     let number = unsafe { lend!(dm_check, storage, answer.as_mut_ptr(), answer.len(),) };
     told(number, answer)
@@ -288,7 +294,7 @@ pub(crate) fn start(
     arg_kinds: &[u8],
     arg_words: &[u64],
 ) -> Told {
-    let mut answer = [0; ANSWER];
+    let mut answer = [UNTOLD; ANSWER];
     // SAFETY: see the head of this file; the state's three slices and the answer are borrowed alone.
     let number = unsafe {
         lend!(
@@ -313,7 +319,7 @@ pub(crate) fn start(
 
 /// Carries out at most `budget` instructions.
 pub(crate) fn run(storage: &Storage, state: &mut State, budget: u32) -> Told {
-    let mut answer = [0; ANSWER];
+    let mut answer = [UNTOLD; ANSWER];
     // SAFETY: see the head of this file; the state's three slices and the answer are borrowed alone.
     let number = unsafe {
         lend!(
@@ -336,7 +342,7 @@ pub(crate) fn run(storage: &Storage, state: &mut State, budget: u32) -> Told {
 /// What a run on no budget would answer; of a finished machine, `first` is the first register that is returned and
 /// `second` how many are; of any other both are 0.
 pub(crate) fn returned(storage: &Storage, state: &State) -> Told {
-    let mut answer = [0; ANSWER];
+    let mut answer = [UNTOLD; ANSWER];
     // SAFETY: see the head of this file; the answer is borrowed alone.
     let number = unsafe {
         lend!(
@@ -357,7 +363,7 @@ pub(crate) fn returned(storage: &Storage, state: &State) -> Told {
 
 /// Where a string's bytes are in the storage's texts: `first` is the first, `second` how many.
 pub(crate) fn text(storage: &Storage, word: u64) -> Told {
-    let mut answer = [0; ANSWER];
+    let mut answer = [UNTOLD; ANSWER];
     // SAFETY: see the head of this file; the answer is borrowed alone.
     let number = unsafe { lend!(dm_text, storage, word, answer.as_mut_ptr(), answer.len(),) };
     told(number, answer)
@@ -461,6 +467,68 @@ mod tests {
         let before = state.clone();
         assert_eq!(run(&bad, &mut state, 1).number, 60);
         assert_eq!(state, before);
+    }
+
+    #[test]
+    fn every_function_tells_its_operand() {
+        let mut storage = filled();
+        let mut state = State::empty();
+        let mut out = [0; 100];
+        for told in [
+            read(IMAGE, &mut storage),
+            write(&storage, &mut out),
+            check(&storage),
+            start(&storage, &mut state, &[], &[]),
+            run(&storage, &mut state, 2),
+            returned(&storage, &state),
+            text(&storage, 0),
+        ] {
+            assert_eq!((told.number, told.operand), (0, 0));
+        }
+        let short = shortened(&storage, 0);
+        for (told, number) in [
+            (read(b"", &mut storage), 4),
+            (write(&short, &mut out), 5),
+            (check(&short), 5),
+            (start(&short, &mut state, &[], &[]), 5),
+            (run(&short, &mut state, 2), 60),
+            (returned(&short, &state), 60),
+            (text(&short, 0), 5),
+        ] {
+            assert_eq!((told.number, told.operand), (number, 0));
+        }
+        // 36, of nil
+        let fails = b"a00100\nc01f00000000\nc00c00000000\ne001\n";
+        assert_eq!(read(fails, &mut storage).number, 0);
+        assert_eq!(start(&storage, &mut state, &[], &[]).number, 0);
+        for told in [run(&storage, &mut state, 1), returned(&storage, &state)] {
+            assert_eq!((told.number, told.operand), (36, 1));
+        }
+    }
+
+    #[test]
+    fn a_start_keeps_no_operand() {
+        let mut state = State::empty();
+        state.frames[0] = 31 + 256 * 3;
+        assert_eq!(start(&filled(), &mut state, &[], &[]).number, 0);
+        assert_eq!(state.frames[0], 70);
+    }
+
+    #[test]
+    fn a_running_or_finished_machine_names_no_kept_operand() {
+        let storage = filled();
+        let mut state = State::empty();
+        start(&storage, &mut state, &[], &[]);
+        run(&storage, &mut state, 1);
+        for number in [70, 0] {
+            for kept in 0..4 {
+                state.frames[0] = number + 256 * kept;
+                for told in [run(&storage, &mut state, 0), returned(&storage, &state)] {
+                    assert_eq!((u64::from(told.number), told.operand), (number, 0));
+                }
+                assert_eq!(state.frames[0], number + 256 * kept);
+            }
+        }
     }
 
     #[test]

@@ -20,7 +20,21 @@
 //!
 //! Whatever the bytes are, nothing here stops the process: an image that is wrong is refused with a number that says
 //! what it was and a place that says where, and a run ends by its budget. Each error is one of these numbers;
-//! `number()` tells it, and its text says what the number says.
+//! `number()` tells it, and its text says what the number says. An operator's error also names the operand at fault:
+//!
+//! ```
+//! use deletion_machine::{Image, Machine, Operand};
+//!
+//! let image = Image::read(b"a00101\nb0020000000000000007\nc02602000000\nc00c00000100\ne001\n")?;
+//! let mut machine = Machine::start(&image, &[])?; // its argument % 7, and there is none
+//! let answer = machine.run(1_000);
+//! assert_eq!((answer.outcome.number(), answer.outcome.operand()), (35, Some(Operand::First)));
+//! assert_eq!(
+//!     answer.to_string(),
+//!     "prototype 0, instruction 0: the left operand of `%` is not a number, nor a string that reads as one (1 instructions)"
+//! );
+//! # Ok::<(), Box<dyn std::error::Error>>(())
+//! ```
 //!
 //! The proofs speak of numbers that are rounded to nearest. So a host leaves the floating-point environment of the thread that
 //! runs a machine as Rust has it: no other rounding mode, no flush-to-zero (`tests/environment.rs` shows what these would do).
@@ -55,7 +69,9 @@ mod machine;
 mod value;
 
 pub use image::{CheckError, Image, Place, ReadError, IMAGE_BYTES};
-pub use machine::{Answer, LuaError, Machine, Outcome, StartError, State, ARGUMENTS};
+pub use machine::{
+    Answer, LuaError, LuaErrorKind, Machine, Operand, Outcome, StartError, State, ARGUMENTS,
+};
 pub use value::Value;
 
 /// Has the tests try the example there.

@@ -122,8 +122,8 @@ impl<'image> Machine<'image> {
 /// sent. Nothing is assumed of one that comes back.
 #[derive(Clone, Debug, PartialEq, Eq)]
 pub struct State {
-    /// The mark (70 while the machine runs, 0 when it is finished, else its Lua error's number), the number of
-    /// activations, and for each its prototype and instruction.
+    /// The mark (70 while the machine runs, 0 when it is finished, else its Lua error's number and 256 times the operand that
+    /// it names), the number of activations, and for each its prototype and instruction.
     pub frames: Vec<u64>,
     /// The kind of each register's value: 0 nil, 1 boolean, 2 integer, 3 number, 4 string, 5 function.
     pub kinds: Vec<u8>,
@@ -149,8 +149,11 @@ impl Answer {
             0 => Outcome::Finished,
             60 => Outcome::Fault,
             70 => Outcome::Paused,
-            number => match LuaError::told(number) {
-                Some(error) => Outcome::Failed(error),
+            number => match LuaErrorKind::told(number) {
+                Some(kind) => Outcome::Failed(LuaError {
+                    kind,
+                    operand: Operand::told(told.operand),
+                }),
                 None => crate::unknown(number),
             },
         };
@@ -178,7 +181,7 @@ impl fmt::Display for Answer {
 pub enum Outcome {
     /// 0: the outermost Return is done; [`Machine::values`] has what it returned.
     Finished,
-    /// A [`LuaError`]'s number: the rule did what Lua forbids, or went too deep.
+    /// A [`LuaError`]'s number: the rule did what Lua forbids, or went too deep. The error names the operand at fault.
     Failed(LuaError),
     /// 70: the budget is used, and the machine still runs.
     Paused,
@@ -195,6 +198,14 @@ impl Outcome {
             Outcome::Failed(error) => error.number(),
             Outcome::Paused => 70,
             Outcome::Fault => 60,
+        }
+    }
+
+    /// The operand that the machine answers: a [`LuaError`]'s, where it names one.
+    pub fn operand(&self) -> Option<Operand> {
+        match self {
+            Outcome::Failed(error) => error.operand,
+            Outcome::Finished | Outcome::Paused | Outcome::Fault => None,
         }
     }
 }
@@ -251,14 +262,89 @@ impl Error for StartError {
     }
 }
 
-/// What a rule did wrong. The answer's place says which instruction did it, and the state is as it was before it.
+/// What a rule did wrong, and with which operand. The answer's place says which instruction did it, and the state is as it was
+/// before it, but for its mark, which keeps both: a failed machine answers them again.
+///
+/// ```
+/// use deletion_machine::{Image, LuaErrorKind, Machine, Operand, Outcome, Value};
+///
+/// // divides its first argument by its second one
+/// let image = Image::read(b"a00202\nc02500000001\nc00c00000100\ne001\n")?;
+/// let error = |left: Value, right: Value| match Machine::start(&image, &[left, right]).unwrap().run(100).outcome {
+///     Outcome::Failed(error) => error,
+///     other => panic!("{other}"),
+/// };
+///
+/// let by_zero = error(Value::Integer(7), Value::Integer(0));
+/// assert_eq!(by_zero.kind, LuaErrorKind::FloorDivideByZero);
+/// assert_eq!(by_zero.number(), 45);
+/// assert_eq!(by_zero.operand, Some(Operand::Second));
+/// assert_eq!(by_zero.to_string(), "the right operand of `//` is zero");
+///
+/// let of_nil = error(Value::Nil, Value::Integer(7));
+/// assert_eq!((of_nil.kind, of_nil.operand), (LuaErrorKind::FloorDivide, Some(Operand::First)));
+/// assert_eq!(
+///     of_nil.to_string(),
+///     "the left operand of `//` is not a number, nor a string that reads as one"
+/// );
+/// # Ok::<(), deletion_machine::ReadError>(())
+/// ```
+#[derive(Clone, Copy, Debug, PartialEq, Eq, Hash)]
+pub struct LuaError {
+    /// What was wrong.
+    pub kind: LuaErrorKind,
+    /// The operand that is named: the first that is unfit, or the zero divisor. An operator's error names one, a call's none.
+    ///
+    /// A machine that was resumed answers the operand that its state keeps, also one that no run leaves there, as with a call; then
+    /// the text says what it says without one.
+    pub operand: Option<Operand>,
+}
+
+impl LuaError {
+    /// The number that the machine answers.
+    pub fn number(&self) -> u8 {
+        self.kind.number()
+    }
+}
+
+/// An operand, as an error names it. Left and right are the instruction's: `a > b` in Lua's code is `b < a`.
+#[derive(Clone, Copy, Debug, PartialEq, Eq, Hash)]
+#[repr(u8)]
+pub enum Operand {
+    /// 1: the left or only one; the index of a numeric `for`.
+    First = 1,
+    /// 2: the right one; the limit of a numeric `for`.
+    Second = 2,
+    /// 3: the step of a numeric `for`.
+    Third = 3,
+}
+
+impl Operand {
+    fn told(number: u32) -> Option<Operand> {
+        match number {
+            0 => None,
+            1 => Some(Operand::First),
+            2 => Some(Operand::Second),
+            3 => Some(Operand::Third),
+            _ => crate::unknown(number),
+        }
+    }
+
+    /// The number that the machine answers: 1 to 3.
+    pub fn number(&self) -> u8 {
+        *self as u8
+    }
+}
+
+/// The Lua errors.
 ///
 /// 30 to 44 say that an operand is unfit for its operator. Arithmetic and bit operations (30 to 42) take a string where it
 /// reads as an integer or a number, as `"7"`, `" 12 "`, `"0x0A"` and `"2.5"` do; comparisons (43, 44) and the controls of
-/// a numeric `for` take none for a number.
+/// a numeric `for` take none for a number. Where two kinds don't go together in a comparison, the right operand is named if the left one
+/// is an integer, a number or a string, else the left one.
 #[derive(Clone, Copy, Debug, PartialEq, Eq, Hash)]
 #[repr(u8)]
-pub enum LuaError {
+pub enum LuaErrorKind {
     /// 30: `+`, or the controls of a numeric `for`.
     Add = 30,
     /// 31: `-` with two operands, or the start and step of a numeric `for`.
@@ -267,9 +353,9 @@ pub enum LuaError {
     Multiply = 32,
     /// 33: `/`.
     FloatDivide = 33,
-    /// 34: `//`; also of an integer by the integer 0.
+    /// 34: `//`.
     FloorDivide = 34,
-    /// 35: `%`; also of an integer by the integer 0.
+    /// 35: `%`.
     Modulo = 35,
     /// 36: `-` with one operand.
     UnaryNegate = 36,
@@ -289,6 +375,10 @@ pub enum LuaError {
     LessThan = 43,
     /// 44: `<=` or `>=`.
     LessEqual = 44,
+    /// 45: `//` of an integer by the integer 0.
+    FloorDivideByZero = 45,
+    /// 46: `%` of an integer by the integer 0.
+    ModuloByZero = 46,
     /// 50: a call of a value that is no function.
     NotAFunction = 50,
     /// 51: a call with 16 activations live.
@@ -297,33 +387,35 @@ pub enum LuaError {
     TooManyRegisters = 52,
 }
 
-impl LuaError {
+impl LuaErrorKind {
     /// Every one of them, in the order of the numbers.
-    pub const ALL: [LuaError; 18] = [
-        LuaError::Add,
-        LuaError::Subtract,
-        LuaError::Multiply,
-        LuaError::FloatDivide,
-        LuaError::FloorDivide,
-        LuaError::Modulo,
-        LuaError::UnaryNegate,
-        LuaError::BitAnd,
-        LuaError::BitOr,
-        LuaError::BitXor,
-        LuaError::BitNot,
-        LuaError::ShiftLeft,
-        LuaError::ShiftRight,
-        LuaError::LessThan,
-        LuaError::LessEqual,
-        LuaError::NotAFunction,
-        LuaError::TooDeep,
-        LuaError::TooManyRegisters,
+    pub const ALL: [LuaErrorKind; 20] = [
+        LuaErrorKind::Add,
+        LuaErrorKind::Subtract,
+        LuaErrorKind::Multiply,
+        LuaErrorKind::FloatDivide,
+        LuaErrorKind::FloorDivide,
+        LuaErrorKind::Modulo,
+        LuaErrorKind::UnaryNegate,
+        LuaErrorKind::BitAnd,
+        LuaErrorKind::BitOr,
+        LuaErrorKind::BitXor,
+        LuaErrorKind::BitNot,
+        LuaErrorKind::ShiftLeft,
+        LuaErrorKind::ShiftRight,
+        LuaErrorKind::LessThan,
+        LuaErrorKind::LessEqual,
+        LuaErrorKind::FloorDivideByZero,
+        LuaErrorKind::ModuloByZero,
+        LuaErrorKind::NotAFunction,
+        LuaErrorKind::TooDeep,
+        LuaErrorKind::TooManyRegisters,
     ];
 
-    fn told(number: u32) -> Option<LuaError> {
+    fn told(number: u32) -> Option<LuaErrorKind> {
         Self::ALL
             .into_iter()
-            .find(|error| u32::from(error.number()) == number)
+            .find(|kind| u32::from(kind.number()) == number)
     }
 
     /// The number that the machine answers.
@@ -332,54 +424,73 @@ impl LuaError {
     }
 }
 
+// What arithmetic and bit operations say of an operand that they don't take.
+const NO_NUMBER: &str = "is not a number, nor a string that reads as one";
+const NO_INTEGER: &str =
+    "is not an integer, nor a number that equals one, nor a string that reads as either";
+
+impl LuaError {
+    /// The operand that is named, in words.
+    fn side(&self) -> &'static str {
+        match self.operand {
+            Some(Operand::First) => "the left operand",
+            Some(Operand::Second) => "the right operand",
+            Some(Operand::Third) | None => "an operand",
+        }
+    }
+
+    /// What the same number says in a loop, where it may be a loop's. One's beginning (31) doesn't look at the limit.
+    fn in_a_loop(&self) -> &'static str {
+        match (self.kind, self.operand) {
+            (_, Some(Operand::First)) => "; in a loop: the index is not a number",
+            (LuaErrorKind::Add, Some(Operand::Second)) => "; in a loop: the limit is not a number",
+            (_, None) => "; in a loop: a control is not a number",
+            (_, Some(_)) => "",
+        }
+    }
+
+    /// The text of a comparison: `less` and what Lua's code has as the same with its operands exchanged.
+    fn not_compared(&self, f: &mut fmt::Formatter<'_>, less: &str, greater: &str) -> fmt::Result {
+        match self.operand {
+            Some(Operand::First) => write!(f, "the left operand of `{less}` (the right one of `{greater}`) can't be compared with the other"),
+            Some(Operand::Second) => write!(f, "the right operand of `{less}` (the left one of `{greater}`) can't be compared with the other"),
+            Some(Operand::Third) | None => write!(f, "the operands of `{less}` (or `{greater}`) can't be compared with each other"),
+        }?;
+        write!(f, ": they are neither two numbers nor two strings")
+    }
+}
+
 impl fmt::Display for LuaError {
     fn fmt(&self, f: &mut fmt::Formatter<'_>) -> fmt::Result {
-        f.write_str(match self {
-            LuaError::Add => {
-                "+: an operand is not a number, nor a string that reads as one; or a for loop: a control is not a number"
+        let side = self.side();
+        match self.kind {
+            LuaErrorKind::Add | LuaErrorKind::Subtract if self.operand == Some(Operand::Third) => {
+                write!(f, "the step of a loop is not a number")
             }
-            LuaError::Subtract => {
-                "-: an operand is not a number, nor a string that reads as one; or the start of a for loop: a control is not a number"
-            }
-            LuaError::Multiply => "*: an operand is not a number, nor a string that reads as one",
-            LuaError::FloatDivide => {
-                "/: an operand is not a number, nor a string that reads as one"
-            }
-            LuaError::FloorDivide => {
-                "//: an operand is not a number, nor a string that reads as one, or integers are divided by 0"
-            }
-            LuaError::Modulo => {
-                "%: an operand is not a number, nor a string that reads as one, or integers are divided by 0"
-            }
-            LuaError::UnaryNegate => {
-                "- with one operand: it is not a number, nor a string that reads as one"
-            }
-            LuaError::BitAnd => {
-                "&: an operand is not an integer, nor a number that equals one, nor a string that reads as either"
-            }
-            LuaError::BitOr => {
-                "|: an operand is not an integer, nor a number that equals one, nor a string that reads as either"
-            }
-            LuaError::BitXor => {
-                "~ with two operands: one is not an integer, nor a number that equals one, nor a string that reads as either"
-            }
-            LuaError::BitNot => {
-                "~ with one operand: it is not an integer, nor a number that equals one, nor a string that reads as either"
-            }
-            LuaError::ShiftLeft => {
-                "<<: an operand is not an integer, nor a number that equals one, nor a string that reads as either"
-            }
-            LuaError::ShiftRight => {
-                ">>: an operand is not an integer, nor a number that equals one, nor a string that reads as either"
-            }
-            LuaError::LessThan => "< or >: the operands are neither two numbers nor two strings",
-            LuaError::LessEqual => "<= or >=: the operands are neither two numbers nor two strings",
-            LuaError::NotAFunction => "a call of a value that is not a function",
-            LuaError::TooDeep => "a call too deep: 16 functions are active already",
-            LuaError::TooManyRegisters => {
+            LuaErrorKind::Add => write!(f, "{side} of `+` {NO_NUMBER}{}", self.in_a_loop()),
+            LuaErrorKind::Subtract => write!(f, "{side} of `-` {NO_NUMBER}{}", self.in_a_loop()),
+            LuaErrorKind::Multiply => write!(f, "{side} of `*` {NO_NUMBER}"),
+            LuaErrorKind::FloatDivide => write!(f, "{side} of `/` {NO_NUMBER}"),
+            LuaErrorKind::FloorDivide => write!(f, "{side} of `//` {NO_NUMBER}"),
+            LuaErrorKind::Modulo => write!(f, "{side} of `%` {NO_NUMBER}"),
+            LuaErrorKind::UnaryNegate => write!(f, "the only operand of `-` {NO_NUMBER}"),
+            LuaErrorKind::BitAnd => write!(f, "{side} of `&` {NO_INTEGER}"),
+            LuaErrorKind::BitOr => write!(f, "{side} of `|` {NO_INTEGER}"),
+            LuaErrorKind::BitXor => write!(f, "{side} of `~` {NO_INTEGER}"),
+            LuaErrorKind::BitNot => write!(f, "the only operand of `~` {NO_INTEGER}"),
+            LuaErrorKind::ShiftLeft => write!(f, "{side} of `<<` {NO_INTEGER}"),
+            LuaErrorKind::ShiftRight => write!(f, "{side} of `>>` {NO_INTEGER}"),
+            LuaErrorKind::LessThan => self.not_compared(f, "<", ">"),
+            LuaErrorKind::LessEqual => self.not_compared(f, "<=", ">="),
+            LuaErrorKind::FloorDivideByZero => write!(f, "the right operand of `//` is zero"),
+            LuaErrorKind::ModuloByZero => write!(f, "the right operand of `%` is zero"),
+            LuaErrorKind::NotAFunction => write!(f, "a call of a value that is not a function"),
+            LuaErrorKind::TooDeep => write!(f, "a call too deep: 16 functions are active already"),
+            LuaErrorKind::TooManyRegisters => write!(
+                f,
                 "a call too deep: the active functions would have more than 2048 registers"
-            }
-        })
+            ),
+        }
     }
 }
 

@@ -70,7 +70,7 @@ fn quotient(a: &str, b: &str) -> Image {
     ])
 }
 
-const FINISHED: &str = "f00000000002000001\n";
+const FINISHED: &str = "f0000000000200000100\n";
 
 #[test]
 fn another_rounding_mode_gives_other_numbers() {

@@ -2,8 +2,8 @@
 
 mod common;
 
-use common::{image, output, rules, Random, BUDGET};
-use deletion_machine::{Image, Machine, Outcome, State};
+use common::{image, integer, output, rules, Random, BUDGET};
+use deletion_machine::{Image, Machine, Operand, Outcome, State};
 
 /// Runs an image in random parts, now and then putting the state away, until it ends. Answers the last state and the
 /// lines that the program would write, with the counts added up.
@@ -87,23 +87,42 @@ fn one_instruction_at_a_time() {
 }
 
 #[test]
-fn a_failing_run_in_random_parts() {
+fn failing_runs_in_random_parts() {
     // calls itself until there are 16 activations
-    let image = image(&[
+    let deep = image(&[
         "a00100",
         "c01100000000",
         "c00a00000000",
         "c00c00000000",
         "e001",
     ]);
-    let mut whole = Machine::start(&image, &[]).unwrap();
-    let answer = whole.run(BUDGET);
-    assert_eq!((answer.outcome.number(), answer.count), (51, 32));
-    let mut random = Random::new(7);
-    for most in 1..=40 {
-        let (state, lines) = in_parts(&image, &mut random, most);
-        assert_eq!(&state, whole.state());
-        assert_eq!(lines, output(&answer, &whole));
+    // a loop from 1 to 9, then 9 // nil
+    let unfit = image(&[
+        "a00500",
+        &integer(1),
+        &integer(9),
+        "c00100000000",
+        "c00100010001",
+        "c00100020000",
+        "c01200000000",
+        "c0130000ffff",
+        "c02500000104",
+        "c00c00000000",
+        "e001",
+    ]);
+    for (image, number, count, operand) in
+        [(deep, 51, 32, None), (unfit, 34, 15, Some(Operand::Second))]
+    {
+        let mut whole = Machine::start(&image, &[]).unwrap();
+        let answer = whole.run(BUDGET);
+        assert_eq!((answer.outcome.number(), answer.count), (number, count));
+        assert_eq!(answer.outcome.operand(), operand);
+        let mut random = Random::new(7);
+        for most in 1..=40 {
+            let (state, lines) = in_parts(&image, &mut random, most);
+            assert_eq!(&state, whole.state());
+            assert_eq!(lines, output(&answer, &whole));
+        }
     }
 }
 

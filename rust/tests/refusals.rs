@@ -1,21 +1,15 @@
 //! Every number that a host can meet, with its place and its text. (5 and 6, which the package's types rule out, are
-//! tested beside the calls, in `src/ffi.rs`.)
+//! tested beside the calls, in `src/ffi.rs`; which operand an error names, in `operands.rs`.)
 
 mod common;
 
-use common::{image, integer, text, BUDGET};
+use common::{at, image, integer, mark, text, BUDGET};
 use deletion_machine::{
-    Answer, CheckError, Image, LuaError, Machine, Outcome, Place, ReadError, StartError, State,
-    Value, IMAGE_BYTES,
+    Answer, CheckError, Image, LuaError, LuaErrorKind, Machine, Operand, Outcome, Place, ReadError,
+    StartError, State, Value, IMAGE_BYTES,
 };
+use std::collections::HashSet;
 use std::error::Error;
-
-fn at(prototype: usize, instruction: usize) -> Place {
-    Place {
-        prototype,
-        instruction,
-    }
-}
 
 // ---- reading: 1 to 4
 
@@ -254,7 +248,21 @@ fn the_checker_comes_before_the_arguments() {
     assert_eq!(error, StartError::Check(CheckError::Prototype(at(0, 0))));
 }
 
-// ---- running: 30 to 44, 50 to 52
+// ---- running: 30 to 46, 50 to 52
+
+/// An error that names the operand with this number, 0 for none.
+fn naming(kind: LuaErrorKind, operand: usize) -> LuaError {
+    let operands = [
+        None,
+        Some(Operand::First),
+        Some(Operand::Second),
+        Some(Operand::Third),
+    ];
+    LuaError {
+        kind,
+        operand: operands[operand],
+    }
+}
 
 /// Runs the lines to a Lua error, sees it answered again, and answers it with its count and place.
 fn failed(lines: &[&str]) -> (LuaError, u32, Place) {
@@ -266,7 +274,7 @@ fn failed(lines: &[&str]) -> (LuaError, u32, Place) {
     let again = Answer { count: 0, ..answer };
     assert_eq!(machine.run(BUDGET), again);
     assert_eq!(machine.state(), &state);
-    assert_eq!(state.frames[0], answer.outcome.number().into(), "its mark");
+    assert_eq!(state.frames[0], mark(&answer.outcome));
     match answer.outcome {
         Outcome::Failed(error) => {
             assert_eq!(answer.outcome.number(), error.number());
@@ -280,22 +288,22 @@ fn failed(lines: &[&str]) -> (LuaError, u32, Place) {
 #[test]
 fn thirty_to_forty_four() {
     // operation, and what it raises on nil
-    for (operation, error) in [
-        (33, LuaError::Add),
-        (34, LuaError::Subtract),
-        (35, LuaError::Multiply),
-        (36, LuaError::FloatDivide),
-        (37, LuaError::FloorDivide),
-        (38, LuaError::Modulo),
-        (31, LuaError::UnaryNegate),
-        (40, LuaError::BitAnd),
-        (41, LuaError::BitOr),
-        (42, LuaError::BitXor),
-        (32, LuaError::BitNot),
-        (43, LuaError::ShiftLeft),
-        (44, LuaError::ShiftRight),
-        (28, LuaError::LessThan),
-        (29, LuaError::LessEqual),
+    for (operation, kind) in [
+        (33, LuaErrorKind::Add),
+        (34, LuaErrorKind::Subtract),
+        (35, LuaErrorKind::Multiply),
+        (36, LuaErrorKind::FloatDivide),
+        (37, LuaErrorKind::FloorDivide),
+        (38, LuaErrorKind::Modulo),
+        (31, LuaErrorKind::UnaryNegate),
+        (40, LuaErrorKind::BitAnd),
+        (41, LuaErrorKind::BitOr),
+        (42, LuaErrorKind::BitXor),
+        (32, LuaErrorKind::BitNot),
+        (43, LuaErrorKind::ShiftLeft),
+        (44, LuaErrorKind::ShiftRight),
+        (28, LuaErrorKind::LessThan),
+        (29, LuaErrorKind::LessEqual),
     ] {
         let one = integer(1);
         let instruction = match operation {
@@ -312,59 +320,154 @@ fn thirty_to_forty_four() {
             RETURN,
             "e001",
         ];
-        assert_eq!(failed(&lines), (error, 2, at(0, 1)), "{operation}");
+        assert_eq!(
+            failed(&lines),
+            (naming(kind, 1), 2, at(0, 1)),
+            "{operation}"
+        );
     }
 }
 
 #[test]
-fn division_of_integers_by_zero() {
-    for (operation, error) in [("25", LuaError::FloorDivide), ("26", LuaError::Modulo)] {
+fn forty_five_and_forty_six() {
+    for (operation, kind) in [
+        ("25", LuaErrorKind::FloorDivideByZero),
+        ("26", LuaErrorKind::ModuloByZero),
+    ] {
         let zero = integer(0);
         let instruction = format!("c0{operation}03000000");
         let lines = ["a00100", &zero, &instruction, RETURN, "e001"];
-        assert_eq!(failed(&lines), (error, 1, at(0, 0)));
+        assert_eq!(failed(&lines), (naming(kind, 2), 1, at(0, 0)));
     }
 }
 
 #[test]
 fn loops_over_what_is_no_number() {
     let prep = ["a00400", "c01200000000", RETURN, "e001"];
-    assert_eq!(failed(&prep), (LuaError::Subtract, 1, at(0, 0)));
+    assert_eq!(
+        failed(&prep),
+        (naming(LuaErrorKind::Subtract, 1), 1, at(0, 0))
+    );
     let turn = ["a00400", "c01300000000", RETURN, "e001"];
-    assert_eq!(failed(&turn), (LuaError::Add, 1, at(0, 0)));
+    assert_eq!(failed(&turn), (naming(LuaErrorKind::Add, 1), 1, at(0, 0)));
 }
 
 #[test]
 fn fifty_to_fifty_two() {
     let of_nil = ["a00100", "c00a00000000", RETURN, "e001"];
-    assert_eq!(failed(&of_nil), (LuaError::NotAFunction, 1, at(0, 0)));
+    assert_eq!(
+        failed(&of_nil),
+        (naming(LuaErrorKind::NotAFunction, 0), 1, at(0, 0))
+    );
 
     // a function that calls itself: by 16 activations, or by registers before that
     let closure = "c01100000000";
     let call = "c00a00000000";
     let deep = ["a00100", closure, call, RETURN, "e001"];
-    assert_eq!(failed(&deep), (LuaError::TooDeep, 32, at(0, 1)));
+    assert_eq!(
+        failed(&deep),
+        (naming(LuaErrorKind::TooDeep, 0), 32, at(0, 1))
+    );
     let just = ["a08000", closure, call, RETURN, "e001"];
-    assert_eq!(failed(&just), (LuaError::TooDeep, 32, at(0, 1)));
+    assert_eq!(
+        failed(&just),
+        (naming(LuaErrorKind::TooDeep, 0), 32, at(0, 1))
+    );
     let wide = ["a08100", closure, call, RETURN, "e001"];
-    assert_eq!(failed(&wide), (LuaError::TooManyRegisters, 30, at(0, 1)));
+    assert_eq!(
+        failed(&wide),
+        (naming(LuaErrorKind::TooManyRegisters, 0), 30, at(0, 1))
+    );
+}
+
+#[test]
+fn numbers_of_lua_errors_and_operands() {
+    let numbers: Vec<u8> = LuaErrorKind::ALL.iter().map(LuaErrorKind::number).collect();
+    let expected: Vec<u8> = (30..=46).chain(50..=52).collect();
+    assert_eq!(numbers, expected);
+    for kind in LuaErrorKind::ALL {
+        for operand in 0..4 {
+            let error = naming(kind, operand);
+            let outcome = Outcome::Failed(error);
+            assert_eq!(
+                (error.number(), outcome.number()),
+                (kind.number(), kind.number())
+            );
+            assert_eq!(outcome.operand(), error.operand);
+            assert_eq!(
+                error.operand.map_or(0, |operand| operand.number().into()),
+                operand
+            );
+        }
+    }
+    for outcome in [Outcome::Finished, Outcome::Paused, Outcome::Fault] {
+        assert_eq!(outcome.operand(), None);
+    }
 }
 
 #[test]
 fn texts_of_lua_errors() {
-    let numbers: Vec<u8> = LuaError::ALL.iter().map(LuaError::number).collect();
-    let expected: Vec<u8> = (30..=44).chain(50..=52).collect();
-    assert_eq!(numbers, expected);
-    let mut texts: Vec<String> = LuaError::ALL.iter().map(LuaError::to_string).collect();
-    texts.sort();
-    texts.dedup();
-    assert_eq!(texts.len(), LuaError::ALL.len(), "no two say the same");
-    assert_eq!(
-        LuaError::Modulo.to_string(),
-        "%: an operand is not a number, nor a string that reads as one, or integers are divided by 0"
-    );
+    for (kind, operand, text) in [
+        (
+            LuaErrorKind::Add,
+            1,
+            "the left operand of `+` is not a number, nor a string that reads as one; in a loop: the index is not a number",
+        ),
+        (
+            LuaErrorKind::Add,
+            2,
+            "the right operand of `+` is not a number, nor a string that reads as one; in a loop: the limit is not a number",
+        ),
+        (LuaErrorKind::Add, 3, "the step of a loop is not a number"),
+        (
+            LuaErrorKind::Subtract,
+            1,
+            "the left operand of `-` is not a number, nor a string that reads as one; in a loop: the index is not a number",
+        ),
+        (
+            LuaErrorKind::Subtract,
+            2,
+            "the right operand of `-` is not a number, nor a string that reads as one",
+        ),
+        (LuaErrorKind::Subtract, 3, "the step of a loop is not a number"),
+        (
+            LuaErrorKind::Modulo,
+            2,
+            "the right operand of `%` is not a number, nor a string that reads as one",
+        ),
+        (
+            LuaErrorKind::UnaryNegate,
+            1,
+            "the only operand of `-` is not a number, nor a string that reads as one",
+        ),
+        (
+            LuaErrorKind::ShiftLeft,
+            1,
+            "the left operand of `<<` is not an integer, nor a number that equals one, nor a string that reads as either",
+        ),
+        (
+            LuaErrorKind::BitNot,
+            1,
+            "the only operand of `~` is not an integer, nor a number that equals one, nor a string that reads as either",
+        ),
+        (
+            LuaErrorKind::LessThan,
+            1,
+            "the left operand of `<` (the right one of `>`) can't be compared with the other: they are neither two numbers nor two strings",
+        ),
+        (
+            LuaErrorKind::LessEqual,
+            2,
+            "the right operand of `<=` (the left one of `>=`) can't be compared with the other: they are neither two numbers nor two strings",
+        ),
+        (LuaErrorKind::FloorDivideByZero, 2, "the right operand of `//` is zero"),
+        (LuaErrorKind::ModuloByZero, 2, "the right operand of `%` is zero"),
+        (LuaErrorKind::NotAFunction, 0, "a call of a value that is not a function"),
+    ] {
+        assert_eq!(naming(kind, operand).to_string(), text);
+    }
     let answer = Answer {
-        outcome: Outcome::Failed(LuaError::NotAFunction),
+        outcome: Outcome::Failed(naming(LuaErrorKind::NotAFunction, 0)),
         count: 3,
         place: at(1, 2),
     };
@@ -372,6 +475,48 @@ fn texts_of_lua_errors() {
         answer.to_string(),
         "prototype 1, instruction 2: a call of a value that is not a function (3 instructions)"
     );
+}
+
+#[test]
+fn no_two_texts_are_the_same() {
+    for operand in 0..3 {
+        let texts: HashSet<String> = LuaErrorKind::ALL
+            .iter()
+            .map(|&kind| naming(kind, operand).to_string())
+            .collect();
+        assert_eq!(texts.len(), LuaErrorKind::ALL.len(), "operand {operand}");
+    }
+    // of what a run answers, the one operand is told from the other
+    for kind in LuaErrorKind::ALL {
+        let told = naming(kind, 1).to_string() != naming(kind, 2).to_string();
+        let only = matches!(kind.number(), 36 | 40 | 45 | 46 | 50..=52);
+        assert_eq!(told, !only, "{kind:?}");
+    }
+}
+
+#[test]
+fn texts_of_operands_that_no_run_leaves() {
+    let general = |kind| naming(kind, 0).to_string();
+    assert_eq!(
+        general(LuaErrorKind::Add),
+        "an operand of `+` is not a number, nor a string that reads as one; in a loop: a control is not a number"
+    );
+    assert_eq!(
+        general(LuaErrorKind::LessThan),
+        "the operands of `<` (or `>`) can't be compared with each other: they are neither two numbers nor two strings"
+    );
+    for kind in LuaErrorKind::ALL {
+        let unheard: &[usize] = match kind.number() {
+            30 | 31 => &[], // each is an operator's or a loop's
+            36 | 40 => &[2, 3],
+            45 | 46 => &[1, 3],
+            50..=52 => &[1, 2, 3],
+            _ => &[3],
+        };
+        for &operand in unheard {
+            assert_eq!(naming(kind, operand).to_string(), general(kind));
+        }
+    }
 }
 
 // ---- running: 60, 70

@@ -2,16 +2,38 @@
 
 mod common;
 
-use common::{image, integer, program, rules, text, BUDGET};
-use deletion_machine::{Answer, Image, LuaError, Machine, Outcome, Place, Value};
+use common::{at, image, integer, program, rules, text, BUDGET};
+use deletion_machine::{Answer, Image, LuaError, LuaErrorKind, Machine, Operand, Outcome, Value};
 
 #[test]
 fn the_session() {
     let session = b"a00100\nb0020000000000000007\nc00100000000\nc00c00000100\ne001\n";
     assert_eq!(
         program(session),
-        "f00000000002000001\nb0020000000000000007\n"
+        "f0000000000200000100\nb0020000000000000007\n"
     );
+}
+
+#[test]
+fn an_operand_is_named_in_the_last_byte() {
+    let session = |operation: &str, right: &str| {
+        program(&text(&[
+            "a00100",
+            "b0020000000000000007",
+            right,
+            operation,
+            "c00c00000000",
+            "e001",
+        ]))
+    };
+    // 7 // 0, 7 // nil, and what isn't run names nothing
+    assert_eq!(
+        session("c02503000001", "b0020000000000000000"),
+        "f02d0000000100000002\n"
+    );
+    assert_eq!(session("c02503000001", "b000"), "f0220000000100000002\n");
+    assert_eq!(session("c02503010001", "b000"), "f00c0000000000000000\n");
+    assert_eq!(session("c02503000001", "b0"), "f0020000000000000200\n");
 }
 
 #[test]
@@ -60,10 +82,7 @@ fn w13() -> Image {
 #[test]
 fn w13_on_budget_8_and_9() {
     let image = w13();
-    let place = Place {
-        prototype: 0,
-        instruction: 5,
-    };
+    let place = at(0, 5);
 
     let mut machine = Machine::start(&image, &[]).unwrap();
     let paused = Answer {
@@ -187,7 +206,10 @@ fn years_that_arrive_as_text() {
     for years in [&b""[..], b"seven", b"7 years", b"1e23", b"0x"] {
         let image = rule(years);
         let mut machine = Machine::start(&image, &[]).unwrap();
-        let outcome = Outcome::Failed(LuaError::Multiply);
+        let outcome = Outcome::Failed(LuaError {
+            kind: LuaErrorKind::Multiply,
+            operand: Some(Operand::First),
+        });
         assert_eq!(machine.run(BUDGET).outcome, outcome, "{years:?}");
     }
 }

@@ -5,15 +5,17 @@
 --   answers.lua blocks        on blocks of operands, each behind a line `w` or `l`: an `r` line for each operator, whose left operand, behind `l`
 --                             whose right one, is the block's first and whose other one is each of the block
 --
--- Arithmetic is s * 1, which keeps the kind of s and the sign of a zero.
+-- Arithmetic is s * 1, which keeps the kind of s and the sign of a zero. An operator's error is whom Lua's message names (../vectors/named.lua), so its
+-- operands are parameters.
 assert(os.setlocale("C", "all"))
+local named = dofile((arg[0]:match("^(.*)/") or ".") .. "/../vectors/named.lua")
 
 local function bytes_of(hex)
   return (hex:gsub("..", function(pair) return string.char(tonumber(pair, 16)) end))
 end
 
-local function shown(ok, r)
-  if not ok or r == nil then return "e" end
+local function shown(r)
+  if r == nil then return "e" end
   if math.type(r) == "integer" then return string.format("i%016x", r) end
   if type(r) == "boolean" then return r and "t" or "f" end
   if r ~= r then return "n7ff8000000000000" end
@@ -23,7 +25,8 @@ end
 local function figures()
   for line in io.lines() do
     local s = bytes_of(line)
-    io.write(shown(pcall(function() return s * 1 end)), " ", shown(true, tonumber(s)), "\n")
+    local ok, r = pcall(function() return s * 1 end)
+    io.write(ok and shown(r) or "e", " ", shown(tonumber(s)), "\n")
   end
 end
 
@@ -44,6 +47,12 @@ local function value_of(line)
   elseif kind == "v5" then return value_of end
 end
 
+-- What an operator makes of its operands.
+local function result(op, a, b)
+  local ok, r = pcall(op, a, b)
+  return ok and shown(r) or named(r)
+end
+
 local function operators()
   local values, n = {}, 0
   for line in io.lines() do
@@ -52,13 +61,13 @@ local function operators()
   end
   for _, op in ipairs(unary) do
     io.write("r")
-    for i = 1, n do io.write(shown(pcall(op, values[i]))) end
+    for i = 1, n do io.write(result(op, values[i])) end
     io.write("\n")
   end
   for _, op in ipairs(binary) do
     for i = 1, n do
       io.write("r")
-      for j = 1, n do io.write(shown(pcall(op, values[i], values[j]))) end
+      for j = 1, n do io.write(result(op, values[i], values[j])) end
       io.write("\n")
     end
   end
@@ -67,13 +76,13 @@ end
 local function block(kind, values)
   for _, op in ipairs(unary) do
     io.write("r")
-    for _, v in ipairs(values) do io.write(shown(pcall(op, v))) end
+    for _, v in ipairs(values) do io.write(result(op, v)) end
     io.write("\n")
   end
   for _, op in ipairs(binary) do
     io.write("r")
     for _, v in ipairs(values) do
-      if kind == "w" then io.write(shown(pcall(op, values[1], v))) else io.write(shown(pcall(op, v, values[1]))) end
+      io.write(kind == "w" and result(op, values[1], v) or result(op, v, values[1]))
     end
     io.write("\n")
   end

@@ -1,27 +1,30 @@
 #!/usr/bin/env python3
-"""Makes the strings and the operators' operands of crates/strings, and what they must read as and give by document 02, 1/12.
+"""Makes the strings and the operators' operands of crates/strings, and what they must read as and give by document 02, 1/12, and whom an error
+names, 5/12.
 
     python3 tools/figures/cases.py             writes crates/strings/stdin and stdout, and the first part of tools/figures/differences.md
     python3 tools/figures/cases.py --check     writes nothing, and fails where one of these is stale
     tools/figures/make.sh RUST [--check]       the same with the Rust's part of differences.md
 
-The answers are those of figure.py and of tools/vectors/reference.py. Python's own numbers, lua5.3 and lua5.4 are asked too, with RUST the
+The answers are those of figure.py and of reference.py and named.py of tools/vectors. Python's own numbers, lua5.3 and lua5.4 are asked too, with RUST the
 Rust; where one of them answers what expected.py doesn't foretell, the script stops. No clock and no random numbers but its own: the same bytes
 each time."""
 import os
 import struct
 import subprocess
 import sys
+from itertools import product
 
 sys.dont_write_bytecode = True
 HERE = os.path.dirname(os.path.realpath(__file__))
 sys.path.insert(1, os.path.join(HERE, '..'))
-from expected import (ARITHMETIC, BLANK_ENDS, FLOATS, HEX_FRACTION, KIND, MORE_DIGITS, MORE_POWER, NAMED, NO_BITS, NO_DIGITS, PAST_END, SMALLEST,
+from expected import (BLANK_ENDS, FLOATS, HEX_FRACTION, KIND, MORE_DIGITS, MORE_POWER, NAMED, NO_BITS, NO_DIGITS, PAST_END, SMALLEST, STRING_LIBRARY,
                       VANISHES, WRAPS, answer, lua_answer, lua_figure, ours, rust_causes)
 from figure import BLANKS, decimal, figure, split
 from oracle.kept import content, keep
 from reference import INTEGER, NUMBER, STRING, to_number
-from causes import shown, shown_vector
+from causes import AGREED, COMPARED, ORDER_OF_TESTS, shown, shown_vector
+from named import CLASS_OF, ERRORS
 from strings import families
 
 DIFFERENCES = os.path.join(HERE, 'differences.md')
@@ -198,23 +201,28 @@ def lua_strings(version, texts, differences):
             differences.add((cause, 'strings'), (len(text), text), (shown((STRING, text)), answer(figure(text)), arithmetic))
 
 
-def lua_operators(version, texts, differences):
+def lua_operators(version, texts, differences, names):
     rows = lua(version, 'operators', [operand_line(v) for v in OPERANDS])
-    compare_lua(version, vectors(), rows, differences)
+    compare_lua(version, vectors(), rows, differences, names)
     rows = lua(version, 'blocks', [line for block in blocks(texts) for line in ('w' if block.first else 'l', *map(operand_line, block.operands))])
-    compare_lua(version, block_vectors(texts), rows, differences)
+    compare_lua(version, block_vectors(texts), rows, differences, names)
 
 
-def compare_lua(version, asked, rows, differences):
+def compare_lua(version, asked, rows, differences, names):
+    """Where both raise an error, whom Lua names goes to `names`; every other difference to `differences`."""
     for (name, operands), got in zip(asked, results_of(rows), strict=True):
         foretold, cause = lua_answer(version, name, operands)
         want = ours(name, operands)
         if got != foretold or got != want and cause is None:
-            sys.exit('Lua %s: %s %s is %s, not %s' % (version, name, operands, got, foretold))
-        if got != want:
+            sys.exit('Lua %s: %s %s is %s; foretold was %s, document 02 has %s' % (version, name, operands, got, foretold, want))
+        both_raise = want in ERRORS and got in (*ERRORS, 'e')
+        if both_raise or got != want:
             size = sum(len(v[1]) if v[0] == STRING else v[1].bit_length() for v in operands)
-            where = 'arithmetic' if name in ARITHMETIC else 'bit operations'
-            differences.add((cause, where), (size, shown_vector(name, operands)), (shown_vector(name, operands), want, got))
+            where, text = WHERE[CLASS_OF[name]], shown_vector(name, operands)
+            if both_raise:
+                names.add((AGREED if got == want else cause, where, want), (size, text), (text, want, got))
+            else:
+                differences.add((cause, where), (size, text), (text, want, got))
 
 
 # ---- the Rust
@@ -246,7 +254,9 @@ def rust_strings(folder, texts, differences):
 
 # ---- what is written
 
+WHERE = {'arithmetic': 'arithmetic', 'bits': 'bit operations', 'comparison': 'comparisons'}
 CAUSES = (FLOATS, NO_BITS, MORE_DIGITS, MORE_POWER, HEX_FRACTION, VANISHES)
+NAMING = (AGREED, ORDER_OF_TESTS, NO_BITS, MORE_DIGITS, MORE_POWER, HEX_FRACTION, COMPARED, STRING_LIBRARY)
 RUST_CAUSES = (BLANK_ENDS, SMALLEST, WRAPS, PAST_END, KIND, MORE_DIGITS, MORE_POWER, HEX_FRACTION, NO_DIGITS, NAMED)
 RUST_PART = '## The Rust\n'
 
@@ -254,31 +264,42 @@ RUST_PART = '## The Rust\n'
 def shown_answer(result, nothing='none'):
     if result[0] in 'in':
         return shown((INTEGER if result[0] == 'i' else NUMBER, int(result[1:], 16)))
-    return {'e': nothing, 'p': 'panic'}[result]
+    return {'1': 'error, 1', '2': 'error, 2', 'z': 'zero divisor', 'e': nothing, 'p': 'panic'}[result]
 
 
-def lua_table(version, differences):
-    lines = ['| Lua %s | where | count | smallest | document 02 | Lua |' % version, '|---|---|---|---|---|---|']
-    for cause in CAUSES:
-        for where in ('strings', 'arithmetic', 'bit operations'):
-            if (cause, where) in differences.found:
-                count, (_, (text, want, got)) = differences.found[cause, where]
-                nothing = 'none' if where == 'strings' else 'error'
-                lines.append('| %s | %s | %d | `%s` | %s | %s |' % (cause, where, count, text, shown_answer(want, nothing), shown_answer(got, nothing)))
+def lua_table(head, keys, differences):
+    """The differences in the order of the keys, which have a cause, where it is, and maybe more."""
+    keys = [key for key in keys if key in differences.found]
+    assert len(keys) == len(differences.found)
+    lines = [head, '|---|---|---|---|---|---|']
+    for key in keys:
+        cause, where = key[:2]
+        count, (_, (text, want, got)) = differences.found[key]
+        nothing = 'none' if where == 'strings' else 'error'
+        lines.append('| %s | %s | %d | `%s` | %s | %s |' % (cause, where, count, text, shown_answer(want, nothing), shown_answer(got, nothing)))
     return lines
 
 
-def lua_part(texts, found):
+def lua_part(texts, found, names):
     inside = [figure(text) for text in texts if figure(text)]
     total, more = sum(1 for _ in vectors()), sum(1 for _ in block_vectors(texts))
     lines = [
-        '<!-- Written by cases.py. -->', '# Where Lua and the Rust differ from document 02, 1/12', '',
+        '<!-- Written by cases.py. -->', '# Where Lua and the Rust differ from document 02, 1/12 and 5/12', '',
         'Of %d strings %d read as an integer, %d as a number, %d as neither. The operators have %d results on %d operands, and %d on the strings.' % (
             len(texts), sum(f[0] == INTEGER for f in inside), sum(f[0] == NUMBER for f in inside), len(texts) - len(inside), total, len(OPERANDS), more),
-        'A difference is counted under one cause; `strings` counts strings, by what arithmetic takes them for. Everything else agrees.', '', '## Lua', '',
+        'A difference is counted under one cause; `strings` counts strings, by what arithmetic takes them for. An error has the operand that it names',
+        'beside it. Everything else agrees.', '', '## Lua', '',
     ]
     for version in VERSIONS:
-        lines += lua_table(version, found[version]) + ['']
+        head = '| Lua %s | where | count | smallest | document 02 | Lua |' % version
+        lines += lua_table(head, product(CAUSES, ('strings', *WHERE.values())), found[version]) + ['']
+    lines += [
+        '## Whom Lua names', '',
+        'The results where both have an error. A message of Lua names an operand, a zero divisor, or neither: `error`.', '',
+    ]
+    for version in VERSIONS:
+        head = '| Lua %s names | where | count | smallest | document 02 | Lua |' % version
+        lines += lua_table(head, product(NAMING, WHERE.values(), ERRORS), names[version]) + ['']
     return '\n'.join(lines) + '\n'
 
 
@@ -312,16 +333,16 @@ def main(words):
     strings = families()
     texts = [text for _, family in strings for text in family]
     held_by_python(texts)
-    found = {version: Differences() for version in VERSIONS}
+    found, names = ({version: Differences() for version in VERSIONS} for _ in range(2))
     for version in VERSIONS:
         lua_strings(version, texts, found[version])
-        lua_operators(version, texts, found[version])
+        lua_operators(version, texts, found[version], names[version])
     rust = written_rust_part()
     if folder:
         differences = Differences()
         rust_strings(folder, texts, differences)
         rust = rust_part(differences)
-    page = lua_part(texts, found) + rust
+    page = lua_part(texts, found, names) + rust
     stdin, stdout = lists(strings)
     keep('strings', stdin, stdout, check)
     if not check:

@@ -5,12 +5,11 @@ cause gives it, or the script that asks stops."""
 import re
 from fractions import Fraction
 
-from figure import BLANKS, FORM, POWER, decimal, figure, figured, hexadecimal, judged, split
-from causes import product_vanishes
+from figure import BLANKS, FORM, POWER, decimal, figure, hexadecimal, judged, split
+import named
+from causes import named_by_lua, product_vanishes
+from named import ARITHMETIC, BITS
 from reference import INTEGER, NUMBER, OPERATORS, STRING, TOP, nearest, remainder, to_number
-
-ARITHMETIC = ('negate', 'add', 'subtract', 'multiply', 'float_divide', 'floor_divide', 'modulo')
-COMPARISONS = ('is_equal', 'less_than', 'less_equal')
 
 # The causes.
 MORE_DIGITS = 'a fraction of more than 15 significant digits is a number'
@@ -19,6 +18,7 @@ HEX_FRACTION = 'a 0x fraction, or one with an exponent `p`, is a number'
 FLOATS = 'a string that reads as an integer becomes a number in arithmetic'
 NO_BITS = 'a bit operation on a string is an error'
 VANISHES = '`%` of numbers asks whether remainder times divisor is below zero, and the product rounds to zero'
+STRING_LIBRARY = 'arithmetic with a string goes by the string library, whose message has the kinds of both operands and names neither'
 BLANK_ENDS = 'a string with blanks at its ends is refused'
 SMALLEST = 'the smallest integer is refused'
 WRAPS = 'a 0x integer from 2^63 on is refused'
@@ -66,7 +66,7 @@ def lua_figure(text):
 
 def lua_operand(version, name, value):
     """What an operator of Lua's takes a value for, and the cause where document 02 takes it for another."""
-    if value[0] != STRING or name in COMPARISONS:
+    if value[0] != STRING or name not in ARITHMETIC + BITS:
         return value, None
     found, cause = lua_figure(value[1])
     if found is None:
@@ -80,14 +80,18 @@ def lua_operand(version, name, value):
 
 def ours(name, operands):
     """Document 02's answer."""
-    return OPERATORS[name](*(operands if name in COMPARISONS else [figured(v) for v in operands]))
+    return named.answer(name, operands, figure)
 
 
 def lua_answer(version, name, operands):
-    """Lua's answer, and the cause where it isn't document 02's."""
+    """Lua's answer, and the cause where it isn't document 02's. An error is whom Lua names: `1`, `2`, `z` for a zero divisor, `e` for none."""
     taken = [lua_operand(version, name, v) for v in operands]
     values = [v for v, _ in taken]
     got, cause = OPERATORS[name](*values), None
+    if got == 'e':
+        got, cause = named_by_lua(name, values)
+        if version == '5.4' and name in ARITHMETIC and got != 'z' and STRING in [v[0] for v in operands]:
+            return 'e', STRING_LIBRARY
     if version == '5.3' and name == 'modulo' and got[0] == 'n' and product_vanishes(*map(to_number, values)):
         got, cause = 'n%016x' % remainder(*map(to_number, values)), VANISHES
     causes = [c for _, c in taken if c]

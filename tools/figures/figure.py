@@ -77,8 +77,3 @@ def figure(text):
 
 def reason(text):
     return judged(text)[1]
-
-
-def figured(value):
-    """What arithmetic and bit operations take a value for."""
-    return figure(value[1]) or value if value[0] == 4 else value

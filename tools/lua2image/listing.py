@@ -1,6 +1,7 @@
 """An image's instructions in words.
 
-    listed(prototypes, functions)     the text; functions: those of the Lua source, in the image's order, or None where there is no source
+    listed(prototypes, functions)                   the text; functions: those of the Lua source, in the image's order, or None where there is no source
+    instruction_line(prototypes, q, p, functions)   the line of instruction p of prototype q
 
 The prototypes are those of tools/oracle: a constant is its bytes from the tag on, an instruction its five bytes."""
 from oracle.rules import BINARY, COMPARISONS, OPERATIONS, broken, index, target
@@ -76,15 +77,22 @@ def in_words(five, q, p, constants):
     return 'r%d = r%d + r%d, unless past r%d: r%d = r%d, %s' % (a, a, a + 2, a + 1, a + 3, a, jump)
 
 
+def instruction_line(prototypes, q, p, functions=None):
+    five = prototypes[q].instructions[p]
+    numbers = broken(prototypes, q, p)
+    name = OPERATIONS.get(five.operation, 'operation %d' % five.operation)
+    if numbers:
+        words = 'bytes %s, refused with %d' % (bytes(five).hex(' '), min(numbers))
+    else:
+        words = in_words(five, q, p, prototypes[q].constants)
+    line = '' if functions is None else 'line %-5d' % functions[q].lines[p]
+    return '%-8s%s %-15s %s' % ('%d:%d' % (q, p), line, name, words)
+
+
 def listed(prototypes, functions=None):
     lines = []
-    for q, (size, parameters, constants, code) in enumerate(prototypes):
+    for q, prototype in enumerate(prototypes):
         begins = '' if functions is None else ', the main program' if q == 0 else ', the function at line %d' % functions[q].line
-        lines.append('prototype %d%s: registers %d, parameters %d' % (q, begins, size, parameters))
-        for p, five in enumerate(code):
-            numbers = broken(prototypes, q, p)
-            name = OPERATIONS.get(five.operation, 'operation %d' % five.operation)
-            words = 'bytes %s, refused with %d' % (bytes(five).hex(' '), min(numbers)) if numbers else in_words(five, q, p, constants)
-            line = '' if functions is None else 'line %-5d' % functions[q].lines[p]
-            lines.append('%-8s%s %-15s %s' % ('%d:%d' % (q, p), line, name, words))
+        lines.append('prototype %d%s: registers %d, parameters %d' % (q, begins, prototype.registers, prototype.parameters))
+        lines += [instruction_line(prototypes, q, p, functions) for p in range(len(prototype.instructions))]
     return ''.join(line + '\n' for line in lines)

@@ -1,5 +1,5 @@
 #!/usr/bin/env python3
-"""Tests of lua2image, from outside: what it writes, how it ends, and of years as text also what the image answers.
+"""Tests of lua2image, from outside: what it writes, how it ends, and of some rules also what the image answers.
 
     python3 tools/lua2image/test.py        needs luac5.3 (Debian's package lua5.3), and no network"""
 import os
@@ -160,7 +160,7 @@ prototype 0, the main program: registers 7, parameters 0
 '''
 # 4380, -7, 3, 3.5, 10 and the text.
 YEARS_ANSWER = '''\
-f00000000009000008
+f0000000000900000800
 b002000000000000111c
 b002fffffffffffffff9
 b0020000000000000003
@@ -186,7 +186,7 @@ prototype 0, the main program: registers 6, parameters 0
 '''
 # 1.0 twice, infinity twice, and -0.0.
 PERIODS_ANSWER = '''\
-f00000000007000006
+f0000000000700000600
 b0033ff0000000000000
 b0033ff0000000000000
 b0037ff0000000000000
@@ -194,11 +194,157 @@ b0037ff0000000000000
 b0038000000000000000
 '''
 
+# Each Lua error by a rule that raises it, what the image answers, and that in words. Operators of two operands come below.
+ERRORS = (
+    ('local a\nreturn -a', 'f0240000000200000101', "line 2: the operand of `-` isn't a number, nor a string that reads as one"),
+    ('local a = "x"\nreturn ~a', 'f0280000000200000101', 'line 2: the operand of `~` has no integer'),
+    ('local a = 7\nreturn 1, a //\n  0', 'f02d0000000300000202', 'line 2: the right side of `//` is zero'),
+    ('local a = "0"\nreturn 7 % a', 'f02e0000000200000102', 'line 2: the right side of `%` is zero'),
+    ('local a\nreturn nil // 0', 'f0220000000200000101', "line 2: the left side of `//`, nil, isn't a number, nor a string that reads as one"),
+    ('return "7 years" * 365', 'f0200000000100000001', 'line 1: the left side of `*`, "7 years", isn\'t a number, nor a string that reads as one'),
+    ('return 1.5 & nil', 'f0250000000100000001', 'line 1: the left side of `&`, 1.5, has no integer'),
+    ('local a = 8\nreturn a < "9"', 'f02b0000000200000102',
+     'line 2: the right side of `<` (the left side of `>`), "9", can\'t be compared with the other side'),
+    ('local a\nreturn 7 > a', 'f02b0000000200000101',
+     "line 2: the left side of `<` (the right side of `>`) can't be compared with the other side"),
+    ('local a\nfor i = a, 2 do end', 'f01f0000000500000401', "line 2: the start of the `for` isn't a number"),
+    ('local a\nfor i = 1, 2, a do end', 'f01f0000000500000403', "line 2: the step of the `for` isn't a number"),
+    ('local a = "9"\nfor i = 1, a do\n  a = i\nend', 'f01e0000000600000602', "line 2: the limit of the `for` isn't a number"),
+    ('local f = 7\n\nf()', 'f0320000000300000200', 'line 3: a call of what is no function'),
+    ('local function f(g)\n  return (g(g))\nend\nreturn (f(f))', 'f0330000003101000200',
+     'line 2: more than 16 calls inside one another, the main program counted'),
+    ('local function f(g)\n  local %s\n  return (g(g))\nend\nreturn (f(f))' % ', '.join('v%d' % i for i in range(150)), 'f0340000003801000300',
+     'line 3: a call that would pass 2,048 registers in all running functions'),
+)
+# Sign, answer, and what an unfit operand is told.
+NO_NUMBER, NO_INTEGER = "isn't a number, nor a string that reads as one", 'has no integer'
+OPERATORS = (
+    ('+', 30, NO_NUMBER), ('-', 31, NO_NUMBER), ('*', 32, NO_NUMBER), ('/', 33, NO_NUMBER), ('//', 34, NO_NUMBER), ('%', 35, NO_NUMBER),
+    ('&', 37, NO_INTEGER), ('|', 38, NO_INTEGER), ('~', 39, NO_INTEGER), ('<<', 41, NO_INTEGER), ('>>', 42, NO_INTEGER),
+)
+# Sign, the one that luac makes of it with the sides exchanged, and the answer.
+COMPARISONS = (('<', '>', 43), ('<=', '>=', 44))
+LUA_ERRORS = {*range(30, 47), *range(50, 53)}
 
-def lua2image(*arguments, **environment):
-    done = subprocess.run([sys.executable, COMMAND, *arguments], stdout=subprocess.PIPE, stderr=subprocess.PIPE, universal_newlines=True,
+# Images that aren't run, their answers and those in words.
+NOT_RUN = (
+    ('a00100\nB0\ne001\n', 'f0010000000000000100',
+     'not an image: line 1 counted from 0, a line that is empty, not paired lowercase hexadecimal, or not ended by LF\n'),
+    ('a00100\nb005\ne001\n', 'f0020000000000000100', 'not an image: line 1 counted from 0, an unknown kind, or a wrong length, tag, order or field\n'),
+    ('a00100\n' * 33, 'f0030000000000002000', 'not an image: line 32 counted from 0, too many bytes, prototypes, constants or instructions\n'),
+    ('a00100\nc00c00000000\n', 'f0040000000000000200', 'not an image: line 2 counted from 0, no e0 line at the end, or a byte after it\n'),
+    ('a00100\nc06300010203\ne001\n', 'f00a0000000000000000',
+     "refused by the checker with 10: an operation that isn't carried, a count of 255, or a jump that closes\n"
+     '0:0      operation 99    bytes 63 00 01 02 03, refused with 10\n'),
+    ('a00100\nc00000000001\nc00c00000000\ne001\n', 'f00b0000000000000000',
+     "refused by the checker with 11: an unused byte or flag that isn't 0, or a yes/no byte above 1\n"
+     '0:0      Move            bytes 00 00 00 00 01, refused with 11\n'),
+    ('a00100\nc00c00000000\na00100\nc00300000100\nc00000000100\nc00c00000000\ne002\n', 'f00c0000000001000100',
+     "refused by the checker with 12: a register that the prototype doesn't have\n"
+     '1:1      Move            bytes 00 00 00 01 00, refused with 12\n'),
+    ('a00100\nc00100000000\nc00c00000000\ne001\n', 'f00d0000000000000000',
+     "refused by the checker with 13: a constant that the prototype doesn't have\n"
+     '0:0      LoadConstant    bytes 01 00 00 00 00, refused with 13\n'),
+    ('a00100\nc00300000100\ne001\n', 'f00e0000000000000000',
+     "refused by the checker with 14: the next instruction may be one that isn't there\n"
+     '0:0      LoadNil         bytes 03 00 00 01 00, refused with 14\n'),
+    ('a00100\nc00c00000000\na00100\ne002\n', 'f00e0000000001000000', 'refused by the checker with 14: prototype 1 has no instructions\n'),
+    ('a00100\nc01100000100\nc00c00000000\ne001\n', 'f00f0000000000000000',
+     "refused by the checker with 15: a prototype that isn't in the image\n"
+     '0:0      Closure         bytes 11 00 00 01 00, refused with 15\n'),
+    ('e000\n', 'f00f0000000000000000', 'refused by the checker with 15: there is no prototype\n'),
+)
+
+VALUES = '''local function late(x)
+  return x
+end
+return nil, true, false, -7, 2.5, 1e22, -0.0, 1e999, -1e999, 0/0, "it's \\"x\\"\\n", "", late
+'''
+VALUES_ANSWER = '''\
+f0000000001000000f00
+b000
+b00101
+b00100
+b002fffffffffffffff9
+b0034004000000000000
+b0034480f0cf064dd592
+b0038000000000000000
+b0037ff0000000000000
+b003fff0000000000000
+b0037ff8000000000000
+b00469742773202278220a
+b004
+b00501
+'''
+VALUES_SAID = '''\
+nil
+true
+false
+-7
+2.5
+1e+22
+-0.0
+inf
+-inf
+nan
+"it's \\034x\\034\\010"
+""
+'''
+
+# What is no answer for an image that divides by a constant, then returns a value and a function: the answer, and the message.
+DIVIDES = 'a00200\nb0020000000000000007\nc02502000000\nc01100010000\nc00c00000200\ne001\n'
+RETURNS = 'f0000000000300000200\n'
+NOT_FOR = 'line 1: answer %d at place %d:%d, operand %d, with %s, is none that this image can have: it is for another one'
+FIRST = 'line 1: an answer begins with a line of 20 digits, f0 the first two'
+NO_VALUE = 'line 2: not a value: b0, its kind from 00 to 05, and as many bytes as the kind has'
+NO_ANSWERS = (
+    ('', FIRST),
+    ('f00000000003000002\n', FIRST),
+    ('f000000000030000020000\n', FIRST),
+    ('f1000000000300000200\n', FIRST),
+    ('b000\n', FIRST),
+    ('F0000000000300000200\n', 'line 1: a line that is empty or not paired lowercase hexadecimal'),
+    ('f000000000030000020\n', 'line 1: a line that is empty or not paired lowercase hexadecimal'),
+    (RETURNS + '\n', 'line 2: a line that is empty or not paired lowercase hexadecimal'),
+    (RETURNS + 'finished\n', 'line 2: a line that is empty or not paired lowercase hexadecimal'),
+    (RETURNS + 'c000\n', NO_VALUE),
+    (RETURNS + 'b0\n', NO_VALUE),
+    (RETURNS + 'b00102\n', NO_VALUE),
+    (RETURNS + 'b00207\n', NO_VALUE),
+    (RETURNS + 'b005\n', NO_VALUE),
+    (RETURNS + 'b0050000\n', NO_VALUE),
+    (RETURNS + 'b006\n', NO_VALUE),
+    (RETURNS + 'b000\nb00501\n', 'line 3: there is no prototype 1 in this image: the answer is for another one'),
+    (RETURNS + 'b000\n', NOT_FOR % (0, 0, 2, 0, '1 value')),
+    ('f0000000000300000202\nb000\nb00500\n', NOT_FOR % (0, 0, 2, 2, '2 values')),
+    ('f0000000000200000100\n', NOT_FOR % (0, 0, 1, 0, 'no value')),
+    ('f0000000000300000300\n', 'line 1: there is no place 0:3 in this image: the answer is for another one'),
+    ('f0460000000001000000\n', 'line 1: there is no place 1:0 in this image: the answer is for another one'),
+    ('f0460000000000000001\n', NOT_FOR % (70, 0, 0, 1, 'no value')),
+    ('f0460000000000000000\nb000\n', NOT_FOR % (70, 0, 0, 0, '1 value')),
+    ('f0220000000100000001\nb000\n', NOT_FOR % (34, 0, 0, 1, '1 value')),
+    ('f0220000000100000000\n', NOT_FOR % (34, 0, 0, 0, 'no value')),
+    ('f0220000000100000003\n', NOT_FOR % (34, 0, 0, 3, 'no value')),
+    ('f0230000000100000001\n', NOT_FOR % (35, 0, 0, 1, 'no value')),
+    ('f02d0000000100000001\n', NOT_FOR % (45, 0, 0, 1, 'no value')),
+    ('f02e0000000100000002\n', NOT_FOR % (46, 0, 0, 2, 'no value')),
+    ('f0320000000100000000\n', NOT_FOR % (50, 0, 0, 0, 'no value')),
+    ('f03c0000000000000000\n', NOT_FOR % (60, 0, 0, 0, 'no value')),
+    ('f0040000000000000500\n', 'line 1: answer 4 refuses an image (no e0 line at the end, or a byte after it), and this one is run: '
+                                'the answer is for another one'),
+)
+
+
+def lua2image(*arguments, answer='', **environment):
+    done = subprocess.run([sys.executable, COMMAND, *arguments], input=answer, stdout=subprocess.PIPE, stderr=subprocess.PIPE, universal_newlines=True,
                           env={**os.environ, **environment})
     return done.returncode, done.stdout, done.stderr
+
+
+def session(image):
+    """What the machine answers for the image in a file."""
+    with open(image, 'rb') as file:
+        return subprocess.run([sys.executable, SESSION], stdin=file, stdout=subprocess.PIPE, check=True, universal_newlines=True).stdout
 
 
 def instructions(image):
@@ -270,7 +416,8 @@ class Refusals(Test):
 class Usage(Test):
     def test_bad_usage_is_2(self):
         rule, image = self.file('rule.lua', 'return 7'), self.file('rule.image', 'e000\n')
-        for arguments in ((), (rule, rule), ('--nonsense', rule), ('-o',), (image,), ('--list', '-o', rule, image)):
+        for arguments in ((), (rule, rule), ('--nonsense', rule), ('-o',), (image,), ('--list', '-o', rule, image), ('--explain',),
+                          ('--explain', '--list', rule), ('--explain', '-o', image, rule), ('--explain', '-o', rule, image)):
             with self.subTest(arguments):
                 status, out, said = lua2image(*arguments)
                 self.assertEqual((status, out), (2, ''))
@@ -288,6 +435,8 @@ class Usage(Test):
             "lua2image: luac5.3 is needed and isn't found on PATH: install Lua 5.3 (Debian, Ubuntu: apt-get install lua5.3)\n")))
         image = self.file('rule.image', 'e000\n')
         self.assertEqual(lua2image('--list', image, PATH=self.folder), (0, '', ''))
+        status, out, said = lua2image('--explain', image, answer='f00f0000000000000000\n', PATH=self.folder)
+        self.assertEqual((status, out[:7], said), (0, 'refused', ''))
 
     def test_where_the_image_goes(self):
         rule, image = self.file('rule.lua', 'return 7'), self.file('rule.image')
@@ -344,15 +493,136 @@ class Answers(Test):
     def answers(self, source, listing, answer):
         rule, image = self.file('rule.lua', source), self.file('rule.image')
         self.assertEqual(lua2image('--list', rule, '-o', image), (0, listing, ''))
-        with open(image, 'rb') as file:
-            said = subprocess.run([sys.executable, SESSION], stdin=file, stdout=subprocess.PIPE, check=True, universal_newlines=True).stdout
-        self.assertEqual(said, answer)
+        self.assertEqual(session(image), answer)
 
     def test_years_as_text(self):
         self.answers(YEARS, YEARS_LISTING, YEARS_ANSWER)
 
     def test_a_period_without_end(self):
         self.answers(PERIODS, PERIODS_LISTING, PERIODS_ANSWER)
+
+
+class Explaining(Test):
+    def explained(self, path, answer):
+        status, out, said = lua2image('--explain', path, answer=answer)
+        self.assertEqual((status, said), (0, ''))
+        return out
+
+    def ends(self, source, answer):
+        """What is said of a rule that answers this, from its source; its image says the same of the place."""
+        rule, image = self.file('rule.lua', source), self.file('rule.image')
+        self.assertEqual(lua2image(rule, '-o', image), (0, '', ''))
+        self.assertEqual(session(image), answer + '\n')
+        said = self.explained(rule, answer + '\n')
+        place = 'place %d:%d' % (int(answer[12:14], 16), int(answer[14:18], 16))
+        self.assertEqual(self.explained(image, answer + '\n'), re.sub(r'^line \d+', place, said))
+        return said
+
+    def test_errors(self):
+        for source, answer, words in ERRORS:
+            with self.subTest(source):
+                self.assertEqual(self.ends(source, answer), words + '\n')
+
+    def test_operators(self):
+        for sign, number, wrong in OPERATORS:
+            with self.subTest(sign):
+                first = 'f0%02x00000003000002' % number
+                self.assertEqual(self.ends('local a, b = nil, 1\nreturn a %s b' % sign, first + '01'), 'line 2: the left side of `%s` %s\n' % (sign, wrong))
+                self.assertEqual(self.ends('local a, b = nil, 1\nreturn b %s a' % sign, first + '02'), 'line 2: the right side of `%s` %s\n' % (sign, wrong))
+
+    def test_comparisons(self):
+        for sign, turned, number in COMPARISONS:
+            first = 'f0%02x00000003000002' % number
+            left = "line 2: the left side of `%s` (the right side of `%s`) can't be compared with the other side\n" % (sign, turned)
+            right = "line 2: the right side of `%s` (the left side of `%s`) can't be compared with the other side\n" % (sign, turned)
+            with self.subTest(sign):
+                self.assertEqual(self.ends('local a, b = nil, 1\nreturn a %s b' % sign, first + '01'), left)
+                self.assertEqual(self.ends('local a, b = nil, 1\nreturn b %s a' % sign, first + '02'), right)
+            with self.subTest(turned):
+                self.assertEqual(self.ends('local a, b = nil, 1\nreturn b %s a' % turned, first + '01'), left)
+                self.assertEqual(self.ends('local a, b = nil, 1\nreturn a %s b' % turned, first + '02'), right)
+
+    def test_every_lua_error_is_among_them(self):
+        of_two = {number for _, number, _ in OPERATORS} | {number for _, _, number in COMPARISONS}
+        self.assertEqual({int(answer[2:4], 16) for _, answer, _ in ERRORS} | of_two, LUA_ERRORS)
+
+    def test_all_controls_of_a_loop(self):
+        loop = self.file('loop.image', 'a00400\nc01200000000\nc01300000000\nc00c00000000\ne001\n')
+        for answer, words in (('f01e0000000200000101', 'index'), ('f01e0000000200000102', 'limit'), ('f01e0000000200000103', 'step')):
+            self.assertEqual(self.explained(loop, answer), "place 0:1: the %s of the `for` isn't a number\n" % words)
+        # its beginning doesn't look at the limit
+        status, out, said = lua2image('--explain', loop, answer='f01f0000000100000002')
+        self.assertEqual((status, out, said), (1, '', 'the answer, ' + NOT_FOR % (31, 0, 0, 2, 'no value') + '\n'))
+
+    def test_values(self):
+        rule, image = self.file('rule.lua', VALUES), self.file('rule.image')
+        self.assertEqual(lua2image(rule, '-o', image), (0, '', ''))
+        self.assertEqual(session(image), VALUES_ANSWER)
+        self.assertEqual(self.explained(rule, VALUES_ANSWER), 'finished after 16 instructions, at line 4: 13 values\n' + VALUES_SAID + 'function 1 (line 1)\n')
+        self.assertEqual(self.explained(image, VALUES_ANSWER), 'finished after 16 instructions, at place 0:15: 13 values\n' + VALUES_SAID + 'function 1\n')
+
+    def test_few_values(self):
+        rule = self.file('rule.lua', 'return')
+        self.assertEqual(self.explained(rule, 'f0000000000100000000\n'), 'finished after 1 instruction, at line 1: no value\n')
+        rule = self.file('rule.lua', 'return 7')
+        self.assertEqual(self.explained(rule, 'f0000000000200000100\nb0020000000000000007\n'), 'finished after 2 instructions, at line 1: 1 value\n7\n')
+
+    def test_the_line_ends_of_another_system(self):
+        rule = self.file('rule.lua', 'return 7')
+        self.assertEqual(self.explained(rule, 'f0000000000200000100\r\nb0020000000000000007'), 'finished after 2 instructions, at line 1: 1 value\n7\n')
+
+    def test_a_budget_that_is_used_up(self):
+        rule = self.file('rule.lua', 'local n = 0\nwhile true do\n  n = n + 1\nend\n')
+        image = self.file('rule.image')
+        self.assertEqual(lua2image(rule, '-o', image), (0, '', ''))
+        # the first instruction, then two for each turn: after an even number the jump back is next
+        answer = 'f046000f424000000200\n'
+        self.assertEqual(self.explained(rule, answer), 'the budget is used up after 1000000 instructions; next is line 3\n')
+        self.assertEqual(self.explained(image, answer), 'the budget is used up after 1000000 instructions; next is place 0:2\n')
+
+    def test_images_that_are_not_run(self):
+        for image, answer, words in NOT_RUN:
+            with self.subTest(image):
+                path = self.file('bad.image', image)
+                self.assertEqual(session(path), answer + '\n')
+                self.assertEqual(self.explained(path, answer + '\n'), words)
+                number = int(answer[2:4], 16)
+                self.assertEqual(lua2image('--explain', path, answer=RETURNS), (
+                    1, '', 'the answer, line 1: this image is refused with %d: the answer is for another one\n' % number))
+
+    def test_what_is_no_answer(self):
+        path = self.file('divides.image', DIVIDES)
+        self.assertEqual(self.explained(path, RETURNS + 'b000\nb00500\n'), 'finished after 3 instructions, at place 0:2: 2 values\nnil\nfunction 0\n')
+        for answer, message in NO_ANSWERS:
+            with self.subTest(answer):
+                self.assertEqual(lua2image('--explain', path, answer=answer), (1, '', 'the answer, %s\n' % message))
+
+    def test_a_rule_that_is_refused(self):
+        rule = self.file('rule.lua', 'return #"x"')
+        status, out, said = lua2image('--explain', rule, answer=RETURNS)
+        self.assertEqual((status, out), (1, ''))
+        self.assertIn(rule + ':1: ', said)
+
+
+class WalkThrough(Test):
+    def test_the_readme_shows_what_is_so(self):
+        with open(os.path.join(HERE, 'README.md')) as file:
+            readme = file.read()
+        source, = re.findall(r'```lua\n(.*?)```', readme, re.S)
+        shown = re.findall(r'^    \$ (.*)\n((?:    [^$].*\n)*)', readme, re.M)
+        finishes, fails = [self.said(rule) for rule in (source, source.replace('17531', 'nil'))]
+        expected = [(command, re.sub('^    ', '', output, flags=re.M)) for command, output in shown]
+        explain = 'tools/lua2image/lua2image --explain rule.lua < answer'
+        self.assertEqual(expected, [('tools/lua2image/lua2image --list rule.lua', finishes[0]), ('./deletion rule.image > answer', ''),
+                                    ('cat answer', finishes[1]), (explain, finishes[2]), (explain, fails[2])])
+        self.assertIn('the same rule answers\n\n    ' + fails[1], readme)
+
+    def said(self, source):
+        """The listing of a rule, its answer, and that in words."""
+        rule, image = self.file('rule.lua', source), self.file('rule.image')
+        listing = lua2image('--list', rule, '-o', image)[1]
+        answer = session(image)
+        return listing, answer, lua2image('--explain', rule, answer=answer)[1]
 
 
 if __name__ == '__main__':

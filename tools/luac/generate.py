@@ -29,26 +29,31 @@ BUDGET = 1000000
 MOST_BYTES = 524288
 RUST = os.path.join(HERE, '..', 'whole', 'answers.txt')
 
-# The number of document 01's table for an error of a Lua operation.
+# The number of document 01's table for an operand that a Lua operation doesn't take, and for a call of no function.
 NUMBERS = {
     'ADD': 30, 'SUB': 31, 'MUL': 32, 'DIV': 33, 'IDIV': 34, 'MOD': 35, 'UNM': 36, 'BAND': 37, 'BOR': 38, 'BXOR': 39, 'BNOT': 40, 'SHL': 41,
     'SHR': 42, 'LT': 43, 'LE': 44, 'CALL': 50, 'FORPREP': 31, 'FORLOOP': 30,
 }
-# Lua's messages, and the operations that raise them. Lua looks at all three controls of a loop in FORPREP; document 01 finds a limit that is no
-# number in NumericForLoop.
-ARITHMETIC = ('ADD', 'SUB', 'MUL', 'DIV', 'IDIV', 'MOD', 'UNM')
-BITWISE = ('BAND', 'BOR', 'BXOR', 'SHL', 'SHR', 'BNOT')
+
+
+def of(*operations):
+    return {name: NUMBERS[name] for name in operations}
+
+
+# Lua's messages, and the operations that raise them with their numbers: a zero divisor has one of its own, document 02's. Lua looks at all three
+# controls of a loop in FORPREP; document 01 finds a limit that is no number in NumericForLoop.
+BITWISE = of('BAND', 'BOR', 'BXOR', 'SHL', 'SHR', 'BNOT')
 MESSAGES = (
-    ('attempt to perform arithmetic on .*', ARITHMETIC),
+    ('attempt to perform arithmetic on .*', of('ADD', 'SUB', 'MUL', 'DIV', 'IDIV', 'MOD', 'UNM')),
     ('attempt to perform bitwise operation on .*', BITWISE),
     ('number.* has no integer representation', BITWISE),
-    ('attempt to divide by zero', ('IDIV',)),
-    ("attempt to perform 'n%+0'", ('MOD',)),
-    ('attempt to compare .*', ('LT', 'LE')),
-    ('attempt to call .*', ('CALL',)),
-    ("'for' initial value must be a number", ('FORPREP',)),
-    ("'for' step must be a number", ('FORPREP',)),
-    ("'for' limit must be a number", ('FORLOOP',)),
+    ('attempt to divide by zero', {'IDIV': 45}),
+    ("attempt to perform 'n%+0'", {'MOD': 46}),
+    ('attempt to compare .*', of('LT', 'LE')),
+    ('attempt to call .*', of('CALL')),
+    ("'for' initial value must be a number", of('FORPREP')),
+    ("'for' step must be a number", of('FORPREP')),
+    ("'for' limit must be a number", of('FORLOOP')),
 )
 
 
@@ -66,7 +71,7 @@ def found(program, case, line, operations):
 
 
 def expected(program, case, said):
-    """What must be written: Lua's answer, in document 01's numbers."""
+    """What must be written: Lua's answer, in the documents' numbers."""
     if case.paper:
         number, line = case.paper
         _, q, p = found(program, case, line, ('CALL',))
@@ -75,10 +80,10 @@ def expected(program, case, said):
     if what == 'ok':
         return ' '.join(['0'] + rest.split())
     line, _, message = rest.partition(' ')
-    for pattern, operations in MESSAGES:
+    for pattern, numbers in MESSAGES:
         if re.fullmatch(pattern, message):
-            name, q, p = found(program, case, int(line), operations)
-            return '%d %d %d' % (NUMBERS[name], q, p)
+            name, q, p = found(program, case, int(line), numbers)
+            return '%d %d %d' % (numbers[name], q, p)
     raise SystemExit('an error that no operation here raises: ' + rest)
 
 
@@ -87,7 +92,7 @@ def foretold(image):
     m = Machine()
     if m.read(image)[0] or m.start()[0]:
         return 'refused'
-    number, _, q, p = m.run(BUDGET)
+    number, _, q, p, _ = m.run(BUDGET)
     if number:
         return '%d %d %d' % (number, q, p)
     return ' '.join(['0'] + [one_nan(m.shown(value)) for value in m.returned()])
@@ -123,7 +128,7 @@ def compiled_and_run():
 
 
 def by_lua():
-    """Name and image of each program, what Lua's answer is in document 01's numbers, and where it comes from."""
+    """Name and image of each program, what Lua's answer is in the documents' numbers, and where it comes from."""
     for case, program, said in zip(CASES, *compiled_and_run()):
         yield case.name, program.image, expected(program, case, said), '%s  Lua:    %s' % (case.source, said)
 

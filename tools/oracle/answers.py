@@ -1,4 +1,4 @@
-"""The numbers that the machine answers: document 01's table of them."""
+"""The numbers that the machine answers: document 01's table of them, and those that document 02 adds."""
 
 # A run: the outermost Return is done. Outside runs: nothing was refused.
 DONE = 0
@@ -18,9 +18,11 @@ UNFIT_OPERAND = {
     'Add': 30, 'Sub': 31, 'Mul': 32, 'Div': 33, 'IDiv': 34, 'Mod': 35, 'Minus': 36, 'BitAnd': 37, 'BitOr': 38, 'BitXor': 39, 'BitNot': 40,
     'ShiftLeft': 41, 'ShiftRight': 42, 'Less': 43, 'LessEq': 44, 'NumericForPrep': 31, 'NumericForLoop': 30,
 }
+# Lua errors: an integer divided by an integer zero (document 02, 5/12), "tested after operand fitness".
+ZERO_DIVISOR = {'IDiv': 45, 'Mod': 46}
 # Lua errors of Call: of no function; with as many activations as may be; past the registers that may be.
 NO_FUNCTION, TOO_DEEP, TOO_WIDE = 50, 51, 52
-LUA_ERRORS = {*UNFIT_OPERAND.values(), NO_FUNCTION, TOO_DEEP, TOO_WIDE}
+LUA_ERRORS = {*UNFIT_OPERAND.values(), *ZERO_DIVISOR.values(), NO_FUNCTION, TOO_DEEP, TOO_WIDE}
 
 FAULT = 60
 RUNNING = 70

@@ -3,16 +3,13 @@
 A value is a kind and a word: nil 0 and 0; boolean 1 and 0 or 1; integer 2 and its 64 bits; number 3 and its 64 bits; string 4 and the number of
 its constant in the whole image; function 5 and its prototype.
 
-An operator that doesn't take its operands raises Unfit. The floats are Python's; tools/vectors/reference.py does without them."""
+`demand_fit` raises Unfit where an operation doesn't take its operands, and alone says which of them is named; what works a value out is asked
+after it. The floats are Python's; tools/vectors/reference.py does without them."""
 import math
 import struct
 
 NIL, BOOLEAN, INTEGER, NUMBER, STRING, FUNCTION = range(6)
 ONE_NAN = 0x7FF8000000000000
-
-
-class Unfit(Exception):
-    """An operand that an operator doesn't take."""
 
 
 # ---- making and taking apart
@@ -49,21 +46,61 @@ def is_numeric(value):
 def exact(value):
     """An int or a float: Python orders the two by exact value."""
     kind, word = value
-    if kind == INTEGER:
-        return signed(word)
-    if kind == NUMBER:
-        return double(word)
-    raise Unfit
+    assert is_numeric(value)
+    return signed(word) if kind == INTEGER else double(word)
+
+
+def has_integer(value):
+    """Whether it is numeric and its value is an integer of 64 bits."""
+    if not is_numeric(value):
+        return False
+    x = exact(value)
+    return isinstance(x, int) or math.isfinite(x) and x == math.floor(x) and -2**63 <= x < 2**63
 
 
 def whole(value):
     """The integer of a bit operation's operand."""
-    x = exact(value)
-    if isinstance(x, float):
-        if x != x or math.isinf(x) or x != math.floor(x) or not -2**63 <= x < 2**63:
-            raise Unfit
-        x = int(x)
-    return x
+    return int(exact(value))
+
+
+# ---- which operand is named: document 02, 5/12
+
+# "1 left or only, 2 right; for loop controls 1 index, 2 limit, 3 step"
+LEFT, RIGHT = 1, 2
+ONLY = LEFT
+INDEX, LIMIT, STEP = 1, 2, 3
+MOST_NAMED = STEP
+
+
+class Unfit(Exception):
+    """An operand that an operation doesn't take."""
+
+    def __init__(self, operand):
+        super().__init__(operand)
+        self.operand = operand
+
+
+class ZeroDivisor(Exception):
+    """An integer zero by which an integer is divided: "both naming 2"."""
+    operand = RIGHT
+
+
+def demand_fit(name, operands):
+    """operands: those that an operation looks at, by their numbers and in their order, figures read where it reads them."""
+    if name == 'Eq':
+        return
+    if name in ('Less', 'LessEq'):
+        # "a comparison of two kinds that don't go together names 2 when the left is an integer, number or string, else 1"
+        left, right = operands[LEFT], operands[RIGHT]
+        if not (is_numeric(left) and is_numeric(right) or left[0] == right[0] == STRING):
+            raise Unfit(RIGHT if left[0] in (INTEGER, NUMBER, STRING) else LEFT)
+        return
+    # "A number without an integer is unfit for bit operations"
+    fits = has_integer if name in BITWISE or name == 'BitNot' else is_numeric
+    # "Operator errors must name the first unfit operand"
+    for operand, value in operands.items():
+        if not fits(value):
+            raise Unfit(operand)
 
 
 # ---- arithmetic
@@ -127,13 +164,13 @@ OF_NUMBERS = {
 
 
 def binary(name, left, right):
-    """What an operator makes of two values."""
+    """What an operator makes of two values that it takes."""
     if name in BITWISE:
         return integer(BITWISE[name](whole(left), whole(right)))
     x, y = exact(left), exact(right)
     if name in OF_INTEGERS and left[0] == right[0] == INTEGER:
         if name in ('IDiv', 'Mod') and y == 0:
-            raise Unfit
+            raise ZeroDivisor
         return integer(OF_INTEGERS[name](x, y))
     return number(OF_NUMBERS[name](float(x), float(y)))
 

@@ -4,11 +4,12 @@
     python3 tools/states/cases.py              writes crates/states/stdin and crates/states/stdout
     python3 tools/states/cases.py --check      writes nothing, and fails where one of the two is stale
 
-Every answer is written by hand beside its case or follows from a rule that is; tools/oracle, which was written from the documents and shares
-nothing with the proved machine, must agree with it, or the script stops. What is left comes from the oracle alone, but for the figures, where it
-is written by hand too."""
+Every answer is written by hand beside its case or follows from a rule or a table that is; tools/oracle, which was written from the documents and
+shares nothing with the proved machine, must agree with it, or the script stops. What is left comes from the oracle alone, but for the figures and
+for the marks of what has ended, which are written by hand too."""
 import os
 import sys
+from itertools import product
 
 sys.dont_write_bytecode = True
 sys.path.insert(1, os.path.join(os.path.dirname(os.path.realpath(__file__)), '..'))
@@ -22,6 +23,8 @@ LIST = []
 ANSWERS = []
 RUNS = [0]
 
+# What crates/states/src/main.rt reads of its standard input.
+MOST_BYTES = 524288
 SLICES = dict(zip('tckwxfrv', SIZES))
 STATE = 'frv'
 ALL = '1' * 8
@@ -79,6 +82,19 @@ RETURN = op('Return', 0, 0)
 
 
 # ---- a case
+
+# Operator errors, which name an operand, and those of Call, which don't.
+OPERATOR_ERRORS = range(30, 47)
+LUA_ERRORS = (*OPERATOR_ERRORS, 50, 51, 52)
+
+
+def whole(expected):
+    """A run's answer with its operand: 0 where it isn't written. An operator error's is."""
+    if len(expected) != 4:
+        return expected or None
+    assert expected[0] not in OPERATOR_ERRORS, expected
+    return (*expected, 0)
+
 
 class Case:
     def __init__(self, name, protos):
@@ -153,7 +169,21 @@ class Case:
         self.answered('>', line, (0,) if expected == 0 else expected, lend, act)
 
     def run(self, budget, *expected, lend=ALL):
-        return self.answered('!', '!%s:%08x' % (lend, budget), expected or None, lend, lambda m: m.run(budget))
+        """expected: number, count, prototype, instruction and operand, as in `whole`."""
+        got = self.answered('!', '!%s:%08x' % (lend, budget), whole(expected), lend, lambda m: m.run(budget))
+        number, count, _, _, operand = got
+        if number in (0, *LUA_ERRORS) and count:
+            self.keeps(number, operand)
+        return got
+
+    def keeps(self, number, operand):
+        """The number and the operand that the mark has: nothing is written to the list."""
+        assert self.machine.frames[0] == number + 256 * operand, (self.name, self.machine.frames[0], number, operand)
+
+    def goes_on(self, at):
+        """A comparison at instruction `at` that raises nothing."""
+        number, count, q, p, operand = self.run(1)
+        assert (number, count, q, operand) == (70, 1, 0, 0) and p in (at + 1, at + 2), (self.name, number, p)
 
     def holds(self, *values, first=0):
         """Registers from `first` on, written by hand: nothing is written to the list."""
@@ -161,7 +191,7 @@ class Case:
         assert got == list(values), (self.name, got, values)
 
     def stands(self, *expected, lend=ALL):
-        return self.answered('?', '?%s' % lend, expected, lend, lambda m: m.run(0))
+        return self.answered('?', '?%s' % lend, whole(expected), lend, lambda m: m.run(0))
 
 
 # ---- starts
@@ -248,7 +278,7 @@ def starts():
     case.run(0, 70, 0, 0, 0)
     case = Case('start: a failed machine starts again', [proto(2, 1, [], [op('Add', 1, 0, 0), op('Return', 1, 1)])])
     case.start(0, NIL)
-    case.run(5, 30, 1, 0, 0)
+    case.run(5, 30, 1, 0, 0, 1)
     case.start(0, i(4))
     case.run(5, 0, 2, 0, 1)
     case = Case('start: an unfit state is fit after it, with what lies beyond its window', [proto(2, 0, [], [RETURN])])
@@ -314,12 +344,140 @@ BROKEN = [
 ]
 
 
-# ---- operators
+# ---- which operand an error names
 
 ARITHMETIC = ('Add', 'Sub', 'Mul', 'Div', 'IDiv', 'Mod')
 BITWISE = ('BitAnd', 'BitOr', 'BitXor', 'ShiftLeft', 'ShiftRight')
+ORDER = ('Less', 'LessEq')
+# The numbers of an unfit operand, and those of a zero divisor.
 NUMBER = {'Add': 30, 'Sub': 31, 'Mul': 32, 'Div': 33, 'IDiv': 34, 'Mod': 35, 'Minus': 36, 'BitAnd': 37, 'BitOr': 38, 'BitXor': 39,
           'BitNot': 40, 'ShiftLeft': 41, 'ShiftRight': 42, 'Less': 43, 'LessEq': 44}
+ZERO_NUMBER = {'IDiv': 45, 'Mod': 46}
+# "Operator errors must name the first unfit operand: 1 left or only, 2 right"; z is a zero divisor; 0 where nothing is raised.
+FIT, LEFT, RIGHT, ZERO = '012z'
+ONLY = LEFT
+ERRORS = (LEFT, RIGHT, ZERO)
+
+# The kinds that operators tell apart, a value of each: a text is a string of the image, f a function.
+SAMPLES = {
+    'nil': NIL, 'true': TRUE, '6': i(6), '4.0': f(4.0), '2.5': f(2.5), 'nan': OTHER_NAN, 'inf': f(INF), '"6"': b'6', '"4.0"': b'4.0', '"2.5"': b'2.5',
+    '"six"': b'six', 'f': fn(1),
+}
+
+
+def table(text):
+    """A row for each left operand, a column for each right one."""
+    columns, *rows = [line.split() for line in text.strip().splitlines()]
+    assert all(len(row) == len(columns) + 1 for row in rows), text
+    return {row[0]: dict(zip(columns, row[1:])) for row in rows}
+
+
+OF_ARITHMETIC = table('''
+            nil  true     6   4.0   2.5   nan   inf   "6" "4.0" "2.5" "six"     f
+    nil       1     1     1     1     1     1     1     1     1     1     1     1
+    true      1     1     1     1     1     1     1     1     1     1     1     1
+    6         2     2     0     0     0     0     0     0     0     0     2     2
+    4.0       2     2     0     0     0     0     0     0     0     0     2     2
+    2.5       2     2     0     0     0     0     0     0     0     0     2     2
+    nan       2     2     0     0     0     0     0     0     0     0     2     2
+    inf       2     2     0     0     0     0     0     0     0     0     2     2
+    "6"       2     2     0     0     0     0     0     0     0     0     2     2
+    "4.0"     2     2     0     0     0     0     0     0     0     0     2     2
+    "2.5"     2     2     0     0     0     0     0     0     0     0     2     2
+    "six"     1     1     1     1     1     1     1     1     1     1     1     1
+    f         1     1     1     1     1     1     1     1     1     1     1     1
+''')
+# "A number without an integer is unfit for bit operations"
+OF_BITS = table('''
+            nil  true     6   4.0   2.5   nan   inf   "6" "4.0" "2.5" "six"     f
+    nil       1     1     1     1     1     1     1     1     1     1     1     1
+    true      1     1     1     1     1     1     1     1     1     1     1     1
+    6         2     2     0     0     2     2     2     0     0     2     2     2
+    4.0       2     2     0     0     2     2     2     0     0     2     2     2
+    2.5       1     1     1     1     1     1     1     1     1     1     1     1
+    nan       1     1     1     1     1     1     1     1     1     1     1     1
+    inf       1     1     1     1     1     1     1     1     1     1     1     1
+    "6"       2     2     0     0     2     2     2     0     0     2     2     2
+    "4.0"     2     2     0     0     2     2     2     0     0     2     2     2
+    "2.5"     1     1     1     1     1     1     1     1     1     1     1     1
+    "six"     1     1     1     1     1     1     1     1     1     1     1     1
+    f         1     1     1     1     1     1     1     1     1     1     1     1
+''')
+# "a comparison of two kinds that don't go together names 2 when the left is an integer, number or string, else 1"
+OF_ORDER = table('''
+            nil  true     6   4.0   2.5   nan   inf   "6" "4.0" "2.5" "six"     f
+    nil       1     1     1     1     1     1     1     1     1     1     1     1
+    true      1     1     1     1     1     1     1     1     1     1     1     1
+    6         2     2     0     0     0     0     0     2     2     2     2     2
+    4.0       2     2     0     0     0     0     0     2     2     2     2     2
+    2.5       2     2     0     0     0     0     0     2     2     2     2     2
+    nan       2     2     0     0     0     0     0     2     2     2     2     2
+    inf       2     2     0     0     0     0     0     2     2     2     2     2
+    "6"       2     2     2     2     2     2     2     0     0     0     0     2
+    "4.0"     2     2     2     2     2     2     2     0     0     0     0     2
+    "2.5"     2     2     2     2     2     2     2     0     0     0     0     2
+    "six"     2     2     2     2     2     2     2     0     0     0     0     2
+    f         1     1     1     1     1     1     1     1     1     1     1     1
+''')
+NAMED = {**dict.fromkeys(ARITHMETIC, OF_ARITHMETIC), **dict.fromkeys(BITWISE, OF_BITS), **dict.fromkeys(ORDER, OF_ORDER)}
+NAMED_OF_ONE = table('''
+            nil  true     6   4.0   2.5   nan   inf   "6" "4.0" "2.5" "six"     f
+    Minus     1     1     0     0     0     0     0     0     0     0     1     1
+    BitNot    1     1     0     0     1     1     1     0     0     1     1     1
+''')
+# "45 for a zero integer divisor in IDiv, 46 in Mod, both naming 2, tested after operand fitness": a row for each dividend. A string outside the
+# set is unfit, though it looks like a zero.
+DIVIDENDS = {
+    'nil': NIL, 'true': TRUE, '5': i(5), '0': i(0), 'smallest': i(SMALLEST), '5.0': f(5.0), 'nan': NAN, '-inf': f(-INF), '"5"': b'5', '"0"': b'0',
+    '"5.0"': b'5.0', '"1e23"': b'1e23', 'f': fn(1),
+}
+DIVISORS = {
+    '0': i(0), '"0"': b'0', '"-0"': b'-0', '"0x0"': b' 0x0 ', '0.0': f(0.0), '-0.0': f(-0.0), '"0.0"': b'0.0', '"0e9"': b'0e9', 'nil': NIL, 'true': TRUE,
+    '"0x0p0"': b'0x0p0', '""': b'', 'f': fn(1),
+}
+BY_ZERO = table('''
+                    0    "0"   "-0"  "0x0"    0.0   -0.0  "0.0"  "0e9"    nil   true "0x0p0"    ""      f
+    nil             1      1      1      1      1      1      1      1      1      1       1     1      1
+    true            1      1      1      1      1      1      1      1      1      1       1     1      1
+    5               z      z      z      z      0      0      0      0      2      2       2     2      2
+    0               z      z      z      z      0      0      0      0      2      2       2     2      2
+    smallest        z      z      z      z      0      0      0      0      2      2       2     2      2
+    5.0             0      0      0      0      0      0      0      0      2      2       2     2      2
+    nan             0      0      0      0      0      0      0      0      2      2       2     2      2
+    -inf            0      0      0      0      0      0      0      0      2      2       2     2      2
+    "5"             z      z      z      z      0      0      0      0      2      2       2     2      2
+    "0"             z      z      z      z      0      0      0      0      2      2       2     2      2
+    "5.0"           0      0      0      0      0      0      0      0      2      2       2     2      2
+    "1e23"          1      1      1      1      1      1      1      1      1      1       1     1      1
+    f               1      1      1      1      1      1      1      1      1      1       1     1      1
+''')
+
+
+def kind_of(value):
+    """The row or column of a value; its string, if it is one, reads as no figure."""
+    kind, word = value
+    if kind != 3:
+        return ('nil', 'true', '6', None, '"six"', 'f')[kind]
+    x = double(word)
+    if x != x:
+        return 'nan'
+    return 'inf' if abs(x) == INF else '4.0' if x == int(x) and -2**63 <= x < 2**63 else '2.5'
+
+
+def entry_of(name, left, right):
+    entry = NAMED[name][kind_of(left)][kind_of(right)]
+    return ZERO if entry == FIT and name in ZERO_NUMBER and left[0] == 2 and right == i(0) else entry
+
+
+def after(name, entry, p):
+    """What a run of one instruction at p answers, where the operator goes on at p + 1."""
+    if entry == FIT:
+        return 70, 1, 0, p + 1
+    return (ZERO_NUMBER[name], 1, 0, p, 2) if entry == ZERO else (NUMBER[name], 1, 0, p, int(entry))
+
+
+# ---- operators
+
 SAMPLE = [NIL, TRUE, i(6), i(-4), f(2.5), f(4.0), s(0), fn(1)]
 EDGES = {
     'Add': [(i(LARGEST), i(1)), (i(SMALLEST), i(-1)), (i(2**53 + 1), f(1.0)), (f(INF), f(-INF)), (OTHER_NAN, i(1)), (f(-0.0), f(-0.0))],
@@ -340,22 +498,6 @@ EDGES = {
 }
 
 
-def is_whole(value):
-    if value[0] == 2:
-        return True
-    x = double(value[1])
-    return value[0] == 3 and x == x and abs(x) != INF and x == int(x) and -2**63 <= x < 2**63
-
-
-def takes(name, left, right):
-    """Whether an operator takes two values."""
-    if name in BITWISE:
-        return is_whole(left) and is_whole(right)
-    if left[0] not in (2, 3) or right[0] not in (2, 3):
-        return False
-    return not (name in ('IDiv', 'Mod') and left[0] == right[0] == 2 and right[1] == 0)
-
-
 def binaries():
     for name in ARITHMETIC + BITWISE:
         case = Case('%s: all kinds, and edges' % name, [proto(3, 0, [b'a'], [op(name, 2, 0, 1), RETURN]), proto(1, 0, [], [RETURN])])
@@ -363,10 +505,7 @@ def binaries():
         for left, right in [(left, right) for left in SAMPLE for right in SAMPLE] + EDGES[name]:
             case.at((0, 0))
             case.put(left, right)
-            if takes(name, left, right):
-                case.run(1, 70, 1, 0, 1)
-            else:
-                case.run(1, NUMBER[name], 1, 0, 0)
+            case.run(1, *after(name, entry_of(name, left, right), 0))
         case = Case('%s: constants, and a destination that is an operand' % name, [
             proto(3, 0, [i(20), f(3.0), b'a'], [
                 op(name, 2, 0, 1), op(name, 2, 0, 1, flags=1), op(name, 2, 0, 1, flags=2), op(name, 2, 0, 1, flags=3),
@@ -374,11 +513,11 @@ def binaries():
         case.start(0)
         case.put(i(9), i(2))
         case.run(7, 70, 7, 0, 7)
-        for at in (8, 9):
+        for at, operand in ((8, 1), (9, 2)):
             case.at((0, at))
             case.put(i(9), i(2))
-            case.run(2, NUMBER[name], 1, 0, at)
-            case.run(2, NUMBER[name], 0, 0, at)
+            case.run(2, NUMBER[name], 1, 0, at, operand)
+            case.run(2, NUMBER[name], 0, 0, at, operand)
 
 
 def unaries():
@@ -391,10 +530,10 @@ def unaries():
             for at in (0, 1):
                 case.at((0, at))
                 case.put(value)
-                if name in ('Move', 'Not') or name == 'Minus' and value[0] in (2, 3) or name == 'BitNot' and is_whole(value):
+                if name in ('Move', 'Not'):
                     case.run(1, 70, 1, 0, at + 1)
                 else:
-                    case.run(1, NUMBER[name], 1, 0, at)
+                    case.run(1, *after(name, NAMED_OF_ONE[name][kind_of(value)], at))
 
 
 def comparisons():
@@ -409,12 +548,11 @@ def comparisons():
             for left, right in pairs:
                 case.at((0, at))
                 case.put(left, right)
-                fits = name == 'Eq' or left[0] in (2, 3) and right[0] in (2, 3) or left[0] == right[0] == 4
-                if fits:
-                    answer = case.run(1)
-                    assert answer[:3] == (70, 1, 0) and answer[3] in (at + 1, at + 2), (name, left, right, answer)
+                entry = FIT if name == 'Eq' else entry_of(name, left, right)
+                if entry == FIT:
+                    case.goes_on(at)
                 else:
-                    case.run(1, NUMBER[name], 1, 0, at)
+                    case.run(1, *after(name, entry, at))
         case = Case('%s: constants' % name, [
             proto(1, 0, [i(3), f(3.5), b'ab', b'b'], [
                 op(name, 0, 0, 0, flags=1), RETURN, op(name, 0, 0, 1, flags=2), RETURN, op(name, 1, 2, 3, flags=3), RETURN,
@@ -538,7 +676,7 @@ def loops():
                 controls[which] = bad
                 case.at((0, 1))
                 case.put(*controls, i(77))
-                case.run(1, *((70, 1, 0, 3) if which == 1 else (31, 1, 0, 1)))
+                case.run(1, *((31, 1, 0, 1, 1), (70, 1, 0, 3), (31, 1, 0, 1, 3))[which])
     case = Case('NumericForLoop: 30 unless all three are numeric, before anything changes', [
         proto(4, 0, [b'a'], [RETURN, op('NumericForLoop', 0, 1), RETURN, op('Return', 0, 4)])])
     case.clear()
@@ -549,7 +687,7 @@ def loops():
                 controls[which] = bad
                 case.at((0, 1))
                 case.put(*controls, i(77))
-                case.run(1, 30, 1, 0, 1)
+                case.run(1, 30, 1, 0, 1, which + 1)
         for controls, place in (((good[0], good[1], good[2]), 3), ((good[1], good[0], good[2]), 2), ((good[2], f(0.5), i(-1)), 2)):
             case.at((0, 1))
             case.put(*controls, i(77))
@@ -559,50 +697,50 @@ def loops():
 
 # ---- figures that arrive as text
 
-# Left, right and what is stored, or None where the operator raises its error. A text is a string of the image.
+# Left, right and what is stored, or which error the operator raises. A text is a string of the image.
 FIGURES = {
     'Add': [
         (b'10', i(1), i(11)), (i(1), b'10', i(11)), (b'10', b'1', i(11)), (b'1.5', i(1), f(2.5)), (f(0.5), b'2', f(2.5)), (b'0x10', b'2.5', f(18.5)),
         (b' 12\t', b'\n-2\r', i(10)), (b'9223372036854775807', i(1), i(SMALLEST)), (b'-9223372036854775808', b'-1', i(LARGEST)),
-        (b'1e3', i(0), f(1000.0)), (b'10000000000000000000', i(0), f(1e19)), (b'9223372036854775808', i(0), None),
-        (i(0), b'9223372036854775808', None), (b'10', b'ten', None), (b'ten', b'10', None), (b'10', NIL, None), (TRUE, b'10', None),
-        (b'10', fn(1), None)],
+        (b'1e3', i(0), f(1000.0)), (b'10000000000000000000', i(0), f(1e19)), (b'9223372036854775808', i(0), LEFT),
+        (i(0), b'9223372036854775808', RIGHT), (b'10', b'ten', RIGHT), (b'ten', b'10', LEFT), (b'10', NIL, RIGHT), (TRUE, b'10', LEFT),
+        (b'10', fn(1), RIGHT)],
     'Sub': [
         (b'10', i(1), i(9)), (i(1), b'10', i(-9)), (b'10', b'1', i(9)), (b'5', b'0.5', f(4.5)), (f(0.5), b'5', f(-4.5)),
-        (b'-9223372036854775808', b'1', i(LARGEST)), (b'1', b'1e23', None), (b'1e23', b'1', None), (b'', i(1), None), (i(1), b'', None)],
+        (b'-9223372036854775808', b'1', i(LARGEST)), (b'1', b'1e23', RIGHT), (b'1e23', b'1', LEFT), (b'', i(1), LEFT), (i(1), b'', RIGHT)],
     'Mul': [
         (b'7', i(6), i(42)), (i(6), b'7', i(42)), (b'6', b'7', i(42)), (b'1.5', i(2), f(3.0)), (b'-0', b'5', i(0)), (b'-0.0', b'5', f(-0.0)),
-        (b'0x8000000000000000', b'-1', i(SMALLEST)), (b'7 ', b' 0X6', i(42)), (b'7', b'6 6', None), (b'- 7', b'6', None), (b'7', b'', None)],
+        (b'0x8000000000000000', b'-1', i(SMALLEST)), (b'7 ', b' 0X6', i(42)), (b'7', b'6 6', RIGHT), (b'- 7', b'6', LEFT), (b'7', b'', RIGHT)],
     'Div': [
         (b'10', i(4), f(2.5)), (i(10), b'4', f(2.5)), (b'10', b'4', f(2.5)), (b'1', b'0', f(INF)), (i(-1), b'0', f(-INF)), (b'0', b'0', NAN),
-        (b'1', b'-0.0', f(-INF)), (b'1', b'0x', None), (b'0x', b'1', None), (b'.', i(1), None)],
+        (b'1', b'-0.0', f(-INF)), (b'1', b'0x', RIGHT), (b'0x', b'1', LEFT), (b'.', i(1), LEFT)],
     'IDiv': [
         (b'7', i(2), i(3)), (i(7), b'2', i(3)), (b'7', b'2', i(3)), (b'-7', i(2), i(-4)), (i(7), b'-2', i(-4)),
-        (b'-9223372036854775808', b'-1', i(SMALLEST)), (b'7.0', b'2', f(3.0)), (i(5), b'0', None), (b'5', i(0), None), (b'5', b'0', None),
-        (b'5', b'-0', None), (b'5', b'0x0', None), (b'5', b' 00 ', None), (f(5.0), b'0', f(INF)), (b'5.0', i(0), f(INF)), (i(5), b'0.0', f(INF)),
-        (b'5', f(0.0), f(INF)), (i(-5), b'0e9', f(-INF)), (i(0), b'seven', None), (b'seven', i(0), None)],
+        (b'-9223372036854775808', b'-1', i(SMALLEST)), (b'7.0', b'2', f(3.0)), (i(5), b'0', ZERO), (b'5', i(0), ZERO), (b'5', b'0', ZERO),
+        (b'5', b'-0', ZERO), (b'5', b'0x0', ZERO), (b'5', b' 00 ', ZERO), (f(5.0), b'0', f(INF)), (b'5.0', i(0), f(INF)), (i(5), b'0.0', f(INF)),
+        (b'5', f(0.0), f(INF)), (i(-5), b'0e9', f(-INF)), (i(0), b'seven', RIGHT), (b'seven', i(0), LEFT)],
     'Mod': [
         (b'7', i(-2), i(-1)), (i(7), b'-2', i(-1)), (b'7', b'2', i(1)), (b'-9223372036854775808', b'-1', i(0)), (b'5.5', i(2), f(1.5)),
-        (i(7), b'2.0', f(1.0)), (i(5), b'0', None), (b'5', i(0), None), (b'5', b'0', None), (b'5', b'+0x00', None), (f(5.0), b'0', NAN),
-        (i(5), b'0.0', NAN), (b'5', f(0.0), NAN), (b'5', b'.0', NAN), (b'5', b'.', None), (b'..', b'5', None), (b'1', f(INF), f(1.0)),
+        (i(7), b'2.0', f(1.0)), (i(5), b'0', ZERO), (b'5', i(0), ZERO), (b'5', b'0', ZERO), (b'5', b'+0x00', ZERO), (f(5.0), b'0', NAN),
+        (i(5), b'0.0', NAN), (b'5', f(0.0), NAN), (b'5', b'.0', NAN), (b'5', b'.', RIGHT), (b'..', b'5', LEFT), (b'1', f(INF), f(1.0)),
         (b'-1', f(INF), f(INF)), (b'-4.0', b'2', f(-0.0)), (i(4), b'-2.0', f(0.0)), (b'-1e-20', b'1.0', f(1.0)), (b'1e-20', i(1), f(1e-20))],
     'BitAnd': [
         (b'12', i(10), i(8)), (i(12), b'10', i(8)), (b'0xc', b'10', i(8)), (b'3.0', i(1), i(1)), (b'1e3', i(8), i(8)), (i(-1), b'-0.0', i(0)),
-        (b'0xffffffffffffffff', i(-1), i(-1)), (b'1.5', i(1), None), (i(1), b'1.5', None), (b'1e19', i(1), None),
-        (b'9223372036854775808', i(1), None), (b'10', f(0.5), None), (b'10', b'0x1p4', None)],
+        (b'0xffffffffffffffff', i(-1), i(-1)), (b'1.5', i(1), LEFT), (i(1), b'1.5', RIGHT), (b'1e19', i(1), LEFT),
+        (b'9223372036854775808', i(1), LEFT), (b'10', f(0.5), RIGHT), (b'10', b'0x1p4', RIGHT)],
     'BitOr': [
         (b'3.0', i(0), i(3)), (i(0), b'3.0', i(3)), (b'0x10', i(0), i(16)), (b'8', b'1', i(9)), (b'-0xffffffffffffffff', i(0), i(1)),
-        (b'0x10000000000000001', i(0), i(1)), (b'-9223372036854775808', i(0), i(SMALLEST)), (b'-922337203685477.5808e4', i(0), None),
-        (b'1.5', i(0), None), (i(0), b'1e-1', None), (b'8', b'one', None)],
+        (b'0x10000000000000001', i(0), i(1)), (b'-9223372036854775808', i(0), i(SMALLEST)), (b'-922337203685477.5808e4', i(0), LEFT),
+        (b'1.5', i(0), LEFT), (i(0), b'1e-1', RIGHT), (b'8', b'one', RIGHT)],
     'BitXor': [
-        (b'5', i(1), i(4)), (i(1), b'5', i(4)), (b'5', b'5.0', i(0)), (b'50e-1', f(1.0), i(4)), (b'1.5', i(1), None), (i(1), b'1.5', None),
-        (b'5', b'5!', None)],
+        (b'5', i(1), i(4)), (i(1), b'5', i(4)), (b'5', b'5.0', i(0)), (b'50e-1', f(1.0), i(4)), (b'1.5', i(1), LEFT), (i(1), b'1.5', RIGHT),
+        (b'5', b'5!', RIGHT)],
     'ShiftLeft': [
-        (b'1', i(4), i(16)), (i(1), b'4', i(16)), (b'1', b'4.0', i(16)), (b'2', b'-1', i(1)), (b'1', b'64', i(0)), (b'1.5', i(1), None),
-        (i(1), b'1.5', None), (b'1', b'1x', None)],
+        (b'1', i(4), i(16)), (i(1), b'4', i(16)), (b'1', b'4.0', i(16)), (b'2', b'-1', i(1)), (b'1', b'64', i(0)), (b'1.5', i(1), LEFT),
+        (i(1), b'1.5', RIGHT), (b'1', b'1x', RIGHT)],
     'ShiftRight': [
-        (b'16', i(4), i(1)), (i(16), b'4', i(1)), (b'16.0', b'4', i(1)), (i(-1), b'1.0', i(LARGEST)), (b'-1', b'0x3f', i(1)), (b'0.5', i(1), None),
-        (i(1), b'0.5', None), (b'x1', b'1', None)],
+        (b'16', i(4), i(1)), (i(16), b'4', i(1)), (b'16.0', b'4', i(1)), (i(-1), b'1.0', i(LARGEST)), (b'-1', b'0x3f', i(1)), (b'0.5', i(1), LEFT),
+        (i(1), b'0.5', RIGHT), (b'x1', b'1', LEFT)],
 }
 FIGURES_OF_ONE = {
     'Minus': [
@@ -612,14 +750,14 @@ FIGURES_OF_ONE = {
         (b'0x8000000000000000', i(SMALLEST)), (b'1e22', f(-1e22)), (b'0.1e23', f(-1e22)), (b'1e-22', f(-1e-22)),
         (b'1e0000000000000000022', f(-1e22)), (b'0e99999', f(-0.0)), (b'123456789012345e22', f(-123456789012345e22)),
         (b'000000000000000000000000000000000000000000000000000000000000007', i(-7)), (b'\t\n\x0b\x0c\r 7\t\n\x0b\x0c\r ', i(-7)),
-        (b'0' * 63 + b'9', i(-9)), (b'', None), (b' ', None), (b'-', None), (b'+', None), (b'0x', None), (b'.', None), (b'.e1', None), (b'1e', None),
-        (b'1e+', None), (b'- 1', None), (b'+-1', None), (b'1 2', None), (b'1\x00', None), (b'\x001', None), (b'\x081', None), (b'\x0e1', None),
-        (b'1\xa0', None), (b'0x1.8', None), (b'0x1p4', None), (b'0xg', None), (b'0b1', None), (b'1_000', None), (b'1,5', None), (b'inf', None),
-        (b'nan', None), (b'1e23', None), (b'10e22', None), (b'1e-23', None), (b'1e99999999999999999999', None), (b'1234567890123456.5', None),
-        (b'0.1234567890123456', None), (b'9223372036854775808', None), (b'-9223372036854775809', None)],
+        (b'0' * 63 + b'9', i(-9)), (b'', ONLY), (b' ', ONLY), (b'-', ONLY), (b'+', ONLY), (b'0x', ONLY), (b'.', ONLY), (b'.e1', ONLY), (b'1e', ONLY),
+        (b'1e+', ONLY), (b'- 1', ONLY), (b'+-1', ONLY), (b'1 2', ONLY), (b'1\x00', ONLY), (b'\x001', ONLY), (b'\x081', ONLY), (b'\x0e1', ONLY),
+        (b'1\xa0', ONLY), (b'0x1.8', ONLY), (b'0x1p4', ONLY), (b'0xg', ONLY), (b'0b1', ONLY), (b'1_000', ONLY), (b'1,5', ONLY), (b'inf', ONLY),
+        (b'nan', ONLY), (b'1e23', ONLY), (b'10e22', ONLY), (b'1e-23', ONLY), (b'1e99999999999999999999', ONLY), (b'1234567890123456.5', ONLY),
+        (b'0.1234567890123456', ONLY), (b'9223372036854775808', ONLY), (b'-9223372036854775809', ONLY)],
     'BitNot': [
-        (b'0', i(-1)), (b'10', i(-11)), (b' 3.0 ', i(-4)), (b'0xffffffffffffffff', i(0)), (b'-1', i(0)), (b'1e3', i(-1001)), (b'1.5', None),
-        (b'1e19', None), (b'', None), (b'x', None), (b'9223372036854775808', None)],
+        (b'0', i(-1)), (b'10', i(-11)), (b' 3.0 ', i(-4)), (b'0xffffffffffffffff', i(0)), (b'-1', i(0)), (b'1e3', i(-1001)), (b'1.5', ONLY),
+        (b'1e19', ONLY), (b'', ONLY), (b'x', ONLY), (b'9223372036854775808', ONLY)],
 }
 
 
@@ -642,9 +780,9 @@ def figures():
         for left, right, result in rows:
             case.at((0, 0))
             case.put(texts(left), texts(right), fn(0))
-            case.run(1, *((NUMBER[name], 1, 0, 0) if result is None else (70, 1, 0, 1)))
+            case.run(1, *after(name, result if result in ERRORS else FIT, 0))
             # Only the result is stored; the operands keep their strings.
-            case.holds(texts(left), texts(right), fn(0) if result is None else result)
+            case.holds(texts(left), texts(right), fn(0) if result in ERRORS else result)
     for name, rows in FIGURES_OF_ONE.items():
         texts = Texts(rows)
         case = Case('%s: strings that read as figures, and strings that do not' % name, [proto(2, 0, texts.all, [op(name, 1, 0), RETURN])])
@@ -652,15 +790,15 @@ def figures():
         for text, result in rows:
             case.at((0, 0))
             case.put(texts(text), TRUE)
-            case.run(1, *((NUMBER[name], 1, 0, 0) if result is None else (70, 1, 0, 1)))
-            case.holds(texts(text), TRUE if result is None else result)
+            case.run(1, *after(name, result if result in ERRORS else FIT, 0))
+            case.holds(texts(text), TRUE if result in ERRORS else result)
     for name in (*FIGURES, *FIGURES_OF_ONE):
         two = name in FIGURES
         case = Case('%s: the result of a string into its own register' % name, [proto(2, 0, [b'6', b'six'], [op(name, 0, 0, *[0] * two), RETURN])])
         case.clear()
         case.at((0, 0))
         case.put(s(1))
-        case.run(1, NUMBER[name], 1, 0, 0)
+        case.run(1, NUMBER[name], 1, 0, 0, 1)
         case.holds(s(1))
         case.at((0, 0))
         case.put(s(0))
@@ -679,8 +817,8 @@ def figures():
     case.holds(s(5), first=3)
     case.run(1, 70, 1, 0, 6)
     case.holds(f(-5.0), first=3)
-    case.run(5, 30, 1, 0, 6)
-    case.run(5, 30, 0, 0, 6)
+    case.run(5, 30, 1, 0, 6, 1)
+    case.run(5, 30, 0, 0, 6, 1)
     case = Case('figures: a string stays a string where nothing is worked out', [
         proto(4, 0, [b'10', i(1)], [
             op('LoadConstant', 0, 0), op('Add', 1, 0, 1, flags=2), op('Move', 2, 0), op('Not', 3, 0), op('Eq', 0, 0, 1), op('Return', 0, 4),
@@ -688,7 +826,7 @@ def figures():
     case.start(0)
     case.run(9, 0, 6, 0, 6)
     case.holds(s(0), i(11), s(0), FALSE)
-    # A comparison takes strings as they are: with numbers they have no order and are not equal.
+    # A comparison takes strings as they are: with numbers they have no order, the left is not at fault, and they are not equal.
     texts = Texts([(b'1', b'1.0', b'10', b'9', b'0x1')])
     for name, number, pairs in (
             ('Eq', None, [
@@ -702,7 +840,7 @@ def figures():
         for left, right, holds in pairs:
             case.at((0, 0))
             case.put(texts(left), texts(right))
-            case.run(1, *((number, 1, 0, 0) if holds is None else (70, 1, 0, 2 if holds else 1)))
+            case.run(1, *((number, 1, 0, 0, 2) if holds is None else (70, 1, 0, 2 if holds else 1)))
     # Nor does a loop: Prep subtracts and NumericForLoop adds, but not what a string reads as.
     for name, number in (('NumericForPrep', 31), ('NumericForLoop', 30)):
         case = Case('%s: figures are not read' % name, [proto(4, 0, [b'1', b'3.0', b'0x1'], [RETURN, op(name, 0, 1), RETURN, op('Return', 0, 4)])])
@@ -717,11 +855,248 @@ def figures():
                     case.run(1, 70, 1, 0, 3)
                     case.holds(i(0), text, i(1), i(77))
                 else:
-                    case.run(1, number, 1, 0, 1)
+                    case.run(1, number, 1, 0, 1, which + 1)
                     case.holds(*controls, i(77))
         case.at((0, 1))
         case.put(s(0), s(0), s(0), i(77))
-        case.run(1, number, 1, 0, 1)
+        case.run(1, number, 1, 0, 1, 1)
+
+
+# ---- who is named, of every pair of kinds
+
+class Operands:
+    """Samples in registers, and as constants of the first of two prototypes: all but the function, which is the second."""
+
+    def __init__(self, *samples):
+        self.samples = {what: value for some in samples for what, value in some.items()}
+        self.constants = [what for what, value in self.samples.items() if value != fn(1)]
+
+    def index(self, what):
+        return self.constants.index(what)
+
+    def __call__(self, what):
+        value = self.samples[what]
+        return s(self.index(what)) if isinstance(value, bytes) else value
+
+    def case(self, name, code):
+        """All registers nil at first; a register is free behind the operands."""
+        case = Case(name, [proto(3, 0, [self.samples[what] for what in self.constants], code + [RETURN, RETURN]), proto(1, 0, [], [RETURN])])
+        case.clear()
+        return case
+
+
+def judge(case, names, at, entry):
+    """Operators one after the other from instruction `at` on, of operands that are there."""
+    for p, name in enumerate(names, at):
+        case.at((0, p))
+        if name in ORDER and entry == FIT:
+            case.goes_on(p)
+        else:
+            case.run(1, *after(name, entry, p))
+
+
+def code_of(names, b, c, flags=0):
+    return [op(name, 1 if name in ORDER else 2, b, c, flags=flags) for name in names]
+
+
+def judge_constants(what, operands, names, entries, pairs):
+    """pairs: of a constant on the left, of one on the right, of two constants."""
+    for flags, where in ((1, 'the left one a constant'), (2, 'the right one a constant'), (3, 'constants')):
+        sides = [(operands.index(left) if flags & 1 else 0, operands.index(right) if flags & 2 else 1) for left, right in pairs[flags]]
+        # The operators of a pair of constants, or of a constant and a register, stand once.
+        places = sorted(set(sides))
+        case = operands.case('%s, %s' % (what, where), [five for b, c in places for five in code_of(names, b, c, flags)])
+        for (left, right), side in zip(pairs[flags], sides):
+            case.put(NIL if flags & 1 else operands(left), NIL if flags & 2 else operands(right))
+            judge(case, names, len(names) * places.index(side), entries[left][right])
+
+
+def named():
+    operands = Operands(SAMPLES)
+    # Beside each constant one operand that every operator takes and one that none takes.
+    kinds = operands.constants
+    pairs = {
+        1: [(kind, other) for kind in kinds for other in ('6', 'nil')],
+        2: [(other, kind) for kind in kinds for other in ('6', 'nil')],
+        3: [(kind, '6') for kind in kinds] + [('6', kind) for kind in kinds if kind != '6'] + [('nil', 'nil')],
+    }
+    for names, entries in ((ARITHMETIC, OF_ARITHMETIC), (BITWISE, OF_BITS), (ORDER, OF_ORDER)):
+        what = 'named: %s to %s' % (names[0], names[-1])
+        case = operands.case('%s, every kind on both sides' % what, code_of(names, 0, 1))
+        for left in SAMPLES:
+            for right in SAMPLES:
+                case.put(operands(left), operands(right))
+                judge(case, names, 0, entries[left][right])
+        judge_constants(what, operands, names, entries, pairs)
+    names = ('Minus', 'BitNot')
+    case = operands.case('named: Minus and BitNot of every kind', [op(name, 2, 0) for name in names])
+    for kind in SAMPLES:
+        case.put(operands(kind))
+        for p, name in enumerate(names):
+            case.at((0, p))
+            case.run(1, *after(name, NAMED_OF_ONE[name][kind], p))
+
+    operands = Operands(DIVIDENDS, DIVISORS)
+    names = tuple(ZERO_NUMBER)
+    case = operands.case('zero divisors, and what is unfit before them', code_of(names, 0, 1))
+    for left in DIVIDENDS:
+        for right in DIVISORS:
+            case.put(operands(left), operands(right))
+            judge(case, names, 0, BY_ZERO[left][right])
+    pairs = [(left, right) for left in ('nil', '5', '5.0', '"5"') for right in ('0', '"0x0"', '0.0', 'nil')]
+    judge_constants('zero divisors', operands, names, BY_ZERO, dict.fromkeys((1, 2, 3), pairs))
+
+
+# Which of a loop's controls are fit (f) and unfit (u): "for loop controls 1 index, 2 limit, 3 step"; "Prep counts only index and step".
+OF_LOOP = {'fff': 0, 'uff': 1, 'fuf': 2, 'ffu': 3, 'uuf': 1, 'ufu': 1, 'fuu': 2, 'uuu': 1}
+OF_PREP = {'fff': 0, 'uff': 1, 'fuf': 0, 'ffu': 3, 'uuf': 1, 'ufu': 1, 'fuu': 3, 'uuu': 1}
+
+
+def controls():
+    fit = ((i(1), i(3), i(1)), (f(1.0), f(3.0), f(1.0)))
+    unfit = (NIL, TRUE, s(0), fn(0))
+    for name, number, entries in (('NumericForPrep', 31, OF_PREP), ('NumericForLoop', 30, OF_LOOP)):
+        case = Case('named: %s, every control fit and unfit' % name, [
+            proto(4, 0, [b'1'], [RETURN, op(name, 0, 1), RETURN, op('Return', 0, 4)])])
+        case.clear()
+        sides = [[('f', good[which]) for good in fit] + [('u', bad) for bad in unfit] for which in range(3)]
+        for index, limit, step in product(*sides):
+            operand = entries[index[0] + limit[0] + step[0]]
+            case.at((0, 1))
+            case.put(index[1], limit[1], step[1], i(77))
+            case.run(1, *((number, 1, 0, 1, operand) if operand else (70, 1, 0, 3)))
+
+
+# ---- the mark, and the operand that it keeps
+
+def marks():
+    def answer(word, p):
+        """A state whose mark is a word, at instruction p, which is a Return where p is 2. "a kept byte above 3 is unfit"."""
+        number, operand = word % 256, word // 256
+        if operand > 3 or number not in (70, *LUA_ERRORS) and not (number == 0 and p == 2):
+            return 60, 0, 0, 0, 0
+        return number, 0, 0, p, operand if number in LUA_ERRORS else 0
+
+    image = [proto(2, 0, [], [op('Move', 1, 0), op('Move', 0, 1), op('Return', 0, 2)])]
+    above = [255 * 256, 2**16, 2**16 + 256, 2**24, 2**32, 2**32 + 512, 2**40, 2**63, 2**64 - 256]
+    for p, what in ((0, 'at a Move'), (2, 'at a Return')):
+        case = Case('mark: every number, %s' % what, image)
+        case.clear()
+        for byte in (0, 3, 4) if p == 0 else (0, 3):
+            for number in range(256):
+                word = number + 256 * byte
+                case.at((0, p), mark=word)
+                case.stands(*answer(word, p))
+        for number in (0, 34, 45, 50, 70):
+            case = Case('mark: %d with bytes from 0 on, %s' % (number, what), image)
+            case.clear()
+            for word in [number + 256 * byte for byte in range(256 if number == 34 and p == 0 else 8)] + [number + more for more in above]:
+                case.at((0, p), mark=word)
+                case.run(0, *answer(word, p))
+                if number != 70 and word < 2048:
+                    case.run(1000, *answer(word, p))
+
+    for byte in range(4):
+        case = Case('mark: byte %d of a running machine is left alone until it finishes' % byte, image)
+        case.clear()
+        case.at((0, 0), mark=70 + 256 * byte)
+        for budget, p in ((0, 0), (1, 1), (0, 1), (1, 2)):
+            case.stands(70, 0, 0, p - budget)
+            case.run(budget, 70, budget, 0, p)
+            case.keeps(70, byte)
+        case.run(1, 0, 1, 0, 2)
+        case.keeps(0, 0)
+        case = Case('mark: byte %d of a finished machine is left alone until it starts' % byte, image)
+        case.clear()
+        case.at((0, 2), mark=256 * byte)
+        for budget in (0, 1, 1000):
+            case.run(budget, 0, 0, 0, 2)
+            case.stands(0, 0, 0, 2)
+        case.start((20, 0, 0), fn(0))
+        case.keeps(0, byte)
+        case.start(0)
+        case.keeps(70, 0)
+        case = Case('mark: byte %d through calls and returns' % byte, NESTED)
+        case.start(0)
+        case.set('f', 0, 70 + 256 * byte)
+        for place in ((0, 1), (0, 2), (1, 0), (1, 1), (1, 2), (2, 0), (2, 1), (1, 3), (0, 3)):
+            case.run(1, 70, 1, *place)
+            case.keeps(70, byte)
+        case.run(1, 0, 1, 0, 3)
+        case.keeps(0, 0)
+        case = Case('mark: byte %d and a fault, which sets no mark' % byte, [proto(2, 0, [], [op('Move', 1, 0), op(39), RETURN])])
+        case.clear()
+        case.at((0, 0), mark=70 + 256 * byte)
+        case.run(5, 60, 1, 0, 1)
+        case.keeps(70, byte)
+
+    # What a run sets names its own operand, whatever was kept.
+    code = [op('Add', 2, 0, 1), op('Less', 0, 0, 1), op('NumericForLoop', 0, 0), op('IDiv', 2, 0, 0), op('Call', 1, 0, 0), RETURN, RETURN]
+    for byte in range(4):
+        case = Case('mark: an error over byte %d' % byte, [proto(4, 0, [i(0), i(1)], code)])
+        case.clear()
+        for p, values, number, operand in (
+                (0, (NIL, i(1)), 30, 1), (0, (i(1), NIL), 30, 2), (1, (NIL, NIL), 43, 1), (1, (f(1.0), NIL), 43, 2), (2, (i(1), i(3), NIL), 30, 3),
+                (2, (i(1), NIL, NIL), 30, 2), (3, (i(0),), 45, 2), (4, (NIL, i(1)), 50, 0)):
+            case.at((0, p), mark=70 + 256 * byte)
+            case.put(*values)
+            case.run(1000, number, 1, 0, p, operand)
+            case.run(1000, number, 0, 0, p, operand)
+    case = Case('mark: 51 and 52 over byte 3', [
+        proto(128, 0, [], [op('Call', 0, 0, 0), RETURN]), proto(255, 0, [], [op('Call', 0, 0, 0), RETURN])])
+    case.clear()
+    case.at(*[(0, 1)] * 15, (0, 0), mark=70 + 256 * 3)
+    case.put(fn(0), first=15 * 128)
+    case.run(1, 51, 1, 0, 0)
+    case.run(1, 51, 0, 0, 0)
+    case.at(*[(0, 1)] * 14, (0, 0), mark=70 + 256 * 3)
+    case.put(fn(1), first=14 * 128)
+    case.run(1, 52, 1, 0, 0)
+    case.run(1, 52, 0, 0, 0)
+    for word in (34 + 256, 45 + 512, 30 + 768, 70 + 256, 34 + 1024, 70 + 65536, MOST):
+        case = Case('mark: a start over %d' % word, image)
+        case.clear()
+        case.at((0, 0), mark=word)
+        case.start(0)
+        case.keeps(70, 0)
+        case.run(1000, 0, 3, 0, 2)
+
+
+# Operands, number and named operand of every operation that can name one, each way.
+FAILURES = {
+    'Add': [((TRUE, i(1)), 30, 1), ((i(1), s(0)), 30, 2)],
+    'Sub': [((fn(0), i(1)), 31, 1), ((f(0.5), NIL), 31, 2)],
+    'Mul': [((s(0), NIL), 32, 1), ((i(2), fn(0)), 32, 2)],
+    'Div': [((NIL, NIL), 33, 1), ((i(1), FALSE), 33, 2)],
+    'IDiv': [((NIL, i(0)), 34, 1), ((i(0), NIL), 34, 2), ((i(7), i(0)), 45, 2), ((i(0), i(0)), 45, 2)],
+    'Mod': [((NIL, f(0.0)), 35, 1), ((i(0), NIL), 35, 2), ((i(7), i(0)), 46, 2), ((i(SMALLEST), i(0)), 46, 2)],
+    'Minus': [((s(0),), 36, 1)],
+    'BitAnd': [((f(1.5), NIL), 37, 1), ((i(1), f(1.5)), 37, 2)],
+    'BitOr': [((f(2.0**63), i(1)), 38, 1), ((i(1), f(2.0**63)), 38, 2)],
+    'BitXor': [((NAN, i(1)), 39, 1), ((f(3.0), f(INF)), 39, 2)],
+    'BitNot': [((f(0.5),), 40, 1)],
+    'ShiftLeft': [((s(0), i(1)), 41, 1), ((i(1), s(0)), 41, 2)],
+    'ShiftRight': [((NIL, s(0)), 42, 1), ((i(1), TRUE), 42, 2)],
+    'Less': [((NIL, i(1)), 43, 1), ((i(1), NIL), 43, 2), ((fn(0), fn(0)), 43, 1)],
+    'LessEq': [((TRUE, s(0)), 44, 1), ((s(0), i(1)), 44, 2)],
+    'NumericForPrep': [((NIL, i(1), i(1)), 31, 1), ((i(1), NIL, NIL), 31, 3)],
+    'NumericForLoop': [((s(0), NIL, NIL), 30, 1), ((i(1), s(0), NIL), 30, 2), ((i(1), i(2), s(0)), 30, 3)],
+}
+# The operands' bytes of those that don't store what they make of registers 0 and 1 into register 3.
+BYTES = {**dict.fromkeys(ORDER, (0, 0, 1)), **dict.fromkeys(('Minus', 'BitNot'), (3, 0)), **dict.fromkeys(('NumericForPrep', 'NumericForLoop'), (0, 1))}
+
+
+def failed():
+    for name, rows in FAILURES.items():
+        case = Case('failed: %s answers again' % name, [
+            proto(4, 0, [b'a'], [op('Not', 3, 3), op(name, *BYTES.get(name, (3, 0, 1))), RETURN, RETURN])])
+        for values, number, operand in rows:
+            case.start(0)
+            case.put(*values)
+            case.run(1000, number, 2, 0, 1, operand)
+            case.stands(number, 0, 0, 1, operand)
+            for budget in (0, 1, 1000):
+                case.run(budget, number, 0, 0, 1, operand)
 
 
 # ---- calls
@@ -850,8 +1225,8 @@ def calls():
     case = Case('an error in a callee: the caller stays after its Call', [
         proto(2, 0, [], [op('Closure', 0, 1), op('Call', 0, 0, 1), RETURN]), proto(2, 0, [], [op('LoadBool', 0, 1), op('Minus', 1, 0), RETURN])])
     case.start(0)
-    case.run(9, 36, 4, 1, 1)
-    case.run(9, 36, 0, 1, 1)
+    case.run(9, 36, 4, 1, 1, 1)
+    case.run(9, 36, 0, 1, 1, 1)
     case = Case('a Call from the second activation of values of the third constant table', [
         proto(2, 0, [b'p'], [op('Closure', 0, 1), op('Call', 0, 0, 2), op('Return', 0, 2)]),
         proto(3, 0, [b'q', b'r'], [op('LoadConstant', 0, 1), op('Closure', 1, 2), op('Call', 1, 0, 2), op('Return', 0, 2)]),
@@ -872,7 +1247,7 @@ def budgets():
     calls_nil = [proto(2, 0, [], [op('LoadNil', 0, 2), op('Call', 1, 0, 0), RETURN])]
     for what, image, total, number, place in (
             ('the session of document 01', session, 2, 0, (0, 1)), ('W13', w13, 9, 0, (0, 5)), ('three prototypes', NESTED, 10, 0, (0, 3)),
-            ('an error in a callee', fails, 5, 42, (1, 1)), ('an error', last, 2, 43, (0, 1)), ('a Call of nil', calls_nil, 2, 50, (0, 1))):
+            ('an error in a callee', fails, 5, 42, (1, 1, 1)), ('an error', last, 2, 43, (0, 1, 1)), ('a Call of nil', calls_nil, 2, 50, (0, 1))):
         case = Case('budgets: %s' % what, image)
         for budget in sorted({0, 1, total - 1, total, total + 1, 1000000, 2**32 - 1}):
             case.start(0)
@@ -1066,11 +1441,11 @@ def unfit():
     fits('what lies beyond the used storage', (70, 0, 2, 0), ('t', 17, 5), ('c', 10, MOST), ('k', 4, 9), ('w', 4, 9), ('x', 2, 9)).run(4, 0, 4, 0, 3)
 
     # the mark
-    for mark in (1, 2, 5, 10, 20, 29, 45, 46, 49, 53, 60, 69, 71, 255, 256, 256 + 30, 256 + 70, 2**32, 2**32 + 70, MOST):
+    for mark in (1, 2, 5, 10, 20, 29, 47, 49, 53, 60, 69, 71, 255, 256, 2**32, 2**32 + 70, MOST):
         causes('mark %d' % mark, ('f', 0, mark))
-    for mark in [*range(30, 45), 50, 51, 52]:
-        case = fits('mark %d, whatever its instruction' % mark, (mark, 0, 2, 0), ('f', 0, mark))
-        case.run(5, mark, 0, 2, 0)
+    for mark in LUA_ERRORS:
+        case = fits('mark %d, whatever its instruction' % mark, (mark, 0, 2, 0, 0), ('f', 0, mark))
+        case.run(5, mark, 0, 2, 0, 0)
 
     # the activations
     for depth in (0, 4, 16, 17, 18, 255, 2**32 + 3, MOST):
@@ -1142,8 +1517,8 @@ def unfit():
     for number, what, five in BROKEN[:12:3]:
         case = fits('the innermost instruction breaks a rule, %s' % what, (70, 0, 2, 0), ('c', 8, packed(five)))
         case.run(9, 60, 0, 2, 0)
-        case = fits('failed at an instruction that breaks a rule, %s' % what, (41, 0, 2, 0), ('c', 8, packed(five)), ('f', 0, 41))
-        case.run(9, 41, 0, 2, 0)
+        case = fits('failed at an instruction that breaks a rule, %s' % what, (41, 0, 2, 0, 0), ('c', 8, packed(five)), ('f', 0, 41))
+        case.run(9, 41, 0, 2, 0, 0)
 
     # finished
     causes('finished with three activations', ('f', 0, 0))
@@ -1161,6 +1536,7 @@ def unfit():
         causes('finished at a Return that breaks a rule: %s' % what, ('f', 0, 0), ('f', 1, 1), ('c', 3, packed(five)))
     fits('finished at a Return of none from register 3', (0, 0, 0, 3), ('f', 0, 0), ('f', 1, 1), ('c', 3, packed(op('Return', 3, 0))))
     causes('failed, with a register that holds no value', ('f', 0, 30), ('r', 0, 6))
+    causes('failed naming 2, with a register that holds no value', ('f', 0, 30 + 512), ('r', 0, 6))
     causes('finished, with a register that holds no value', ('f', 0, 0), ('f', 1, 1), ('r', 2, 6))
     fits('finished, with a dead register that holds no value', (0, 0, 0, 3), ('f', 0, 0), ('f', 1, 1), ('r', 3, 6))
     causes('failed, with no activation', ('f', 0, 30), ('f', 1, 0))
@@ -1212,9 +1588,12 @@ def unfit():
 
 def main():
     check = checking(__doc__)
-    for group in (starts, binaries, unaries, comparisons, tests, loads, loops, figures, calls, budgets, faults, unfit):
+    for group in (starts, binaries, unaries, comparisons, tests, loads, loops, figures, named, controls, marks, failed, calls, budgets, faults, unfit):
         group()
-    keep('states', ''.join(LIST), ''.join(ANSWERS), check)
+    stdin = ''.join(LIST)
+    if len(stdin) > MOST_BYTES:
+        raise SystemExit('%d bytes; crates/states reads %d' % (len(stdin), MOST_BYTES))
+    keep('states', stdin, ''.join(ANSWERS), check)
     print('%d cases, %d starts and runs' % (sum(part[0] == '#' for part in ANSWERS), RUNS[0]))
 
 

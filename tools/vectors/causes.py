@@ -3,9 +3,10 @@
 Most are those of document 01's section "Where the Rust misleads"; docs/DIFFERENCES.md has them all. A rule holds just
 where its cause is at work, so that a difference without a rule is one that nobody knows of. Operators have the names of
 reference.py, and its values: (kind, word), or (4, bytes). What the Rust makes of a string where an operator reads it as a
-figure is in ../whole/texts.py. Behind the rules: where Lua 5.3 differs.
+figure is in ../whole/texts.py. Behind the rules: where Lua differs.
 """
 import reference
+from named import BITS, ORDER
 from reference import INTEGER, NUMBER, STRING, TOP, add_numbers, remainder, signed
 
 SIGN = {
@@ -32,7 +33,7 @@ def shown(value):
         q = reference.exact(word)
         whole = q.denominator == 1 and abs(q) < 10**30
         return "%s%d.0" % ("-" if reference.negative(word) else "", abs(q)) if whole else repr(float(q))
-    return "nil" if kind == 0 else "true" if word else "false"
+    return {0: "nil", 1: "true" if word else "false", 5: "function"}[kind]
 
 
 def shown_vector(name, operands):
@@ -148,7 +149,23 @@ RULES = [
 ]
 
 
-# Lua 5.3.
+# Lua.
+
+AGREED = "the same operand"
+ORDER_OF_TESTS = "a bit operation looks for an operand that isn't a number before it looks for one without an integer"
+COMPARED = "a comparison's message has the kinds of both operands and names neither"
+
+
+def named_by_lua(name, operands):
+    """Whom Lua names where an operator raises on these operands: `1` or `2`; `z` for a zero divisor; `e` for none. And the cause where document 02
+    names another."""
+    if name in ORDER:
+        return "e", COMPARED
+    no_number = [str(place) for place, v in enumerate(operands, 1) if not reference.is_numeric(v)]
+    no_integer = [str(place) for place, v in enumerate(operands, 1) if name in BITS and reference.to_integer(v) is None]
+    cause = ORDER_OF_TESTS if no_number and no_integer and no_number[0] != no_integer[0] else None
+    return (no_number or no_integer or ["z"])[0], cause
+
 
 def product_vanishes(x, y):
     """Whether Lua 5.3 leaves out the `+ b` of document 02's `%` of two numbers. It asks whether remainder times divisor is

@@ -5,22 +5,26 @@
 FOLDER has lua5.3.list, lua5.4.list, and the Rust's answers with overflow checks (checked.list, .loops, .facts) and as a
 release (released.list, .loops, .facts); make.sh puts them there. Written into it: stdin (Lua's lists, then the Rust's with
 `-` wherever it differs from the documents), stdout (what the replayer must print of it) and differences.md. It stops with
-an error where Lua differs from the reference anywhere, or the Rust where no rule of RULES says so, and where `%` of numbers
-breaks its law.
+an error where Lua differs from the reference anywhere, or the Rust where no rule of RULES says so, where Lua names another
+operand than named.txt without a cause, and where `%` of numbers breaks its law.
 """
 import re
 import sys
 from collections import namedtuple
 from fractions import Fraction
+from itertools import product
 
 import reference
-from causes import RULES, SIGN, product_vanishes, shown, shown_vector
+from causes import AGREED, COMPARED, ORDER_OF_TESTS, RULES, SIGN, named_by_lua, product_vanishes, shown, shown_vector
+from named import CLASS_OF, CLASSES, ERRORS, answer
 from reference import INTEGER, NUMBER, STRING, TOP, signed
 
 Section = namedtuple("Section", "numbers source name values results")
 Difference = namedtuple("Difference", "rule name operands wanted checked released")
+Error = namedtuple("Error", "source name operands wanted told cause")
 ARITY = {"negate": 1, "bitwise_not": 1, "past_end": 3}
 HARD = "hard numbers modulo"
+SOURCES = {"lua": "Lua 5.3", "lua5.4": "Lua 5.4"}
 
 
 # The lists.
@@ -48,7 +52,7 @@ def sections(path):
             source, name = line[14:].split(" ", 1)
             found.append(Section(line[1:6], source, name, values, []))
         else:
-            results = re.findall("[in][0-9a-f]{16}|[tfep-]", line)
+            results = re.findall("[in][0-9a-f]{16}|[tf12zep-]", line)
             assert "".join(results) == line, line
             found[-1].results.extend(results)
     for s in found:
@@ -79,11 +83,11 @@ def arity(section):
 
 def vectors(section):
     """Each result with its operands and what the documents say."""
-    n, operator = len(section.values), reference.OPERATORS[plain(section.name)]
+    n, name = len(section.values), plain(section.name)
     for p, got in enumerate(section.results):
         places = [p // n ** k % n for k in range(arity(section))][::-1]
         operands = [section.values[i] for i in places]
-        yield operands, got, operator(*operands)
+        yield operands, got, answer(name, operands)
 
 
 def loops(path):
@@ -103,17 +107,31 @@ def left_out(section, operands):
     return product_vanishes(*map(reference.to_number, operands))
 
 
+def foretold(section, operands, want):
+    """Lua's answer, and of an error the cause where Lua doesn't name the operand that the documents name."""
+    if left_out(section, operands):
+        return "-", None
+    return named_by_lua(plain(section.name), operands) if want in ERRORS else (want, None)
+
+
 def held(path):
-    """Lua's list. It must have the reference's answers, and `-` just where Lua 5.3 has another."""
-    found = sections(path)
+    """Lua's list with the table's word for each error, and the errors. The list must have the reference's answers, `-` just where Lua 5.3 has another,
+    and name the table's operand but for a cause."""
+    found, kept, errors = sections(path), [], []
     assert list_of(found) == open(path).read()
     for s in found:
+        results = []
         for operands, got, want in vectors(s):
-            if got != ("-" if left_out(s, operands) else want):
+            lua, cause = foretold(s, operands, want)
+            if got != lua or want in ERRORS and got != want and cause is None:
                 sys.exit("Lua differs: %s %s %s: %s, not %s" % (s.source, s.name, operands, got, want))
             if plain(s.name) == "modulo" and want[0] == "n":
                 check_law(*map(reference.to_number, operands), int(want[1:], 16))
-    return found
+            results.append(want if want in ERRORS else got)
+            if want in ERRORS:
+                errors.append(Error(s.source, plain(s.name), operands, want, got, AGREED if got == want else cause))
+        kept.append(s._replace(results=results))
+    return kept, errors
 
 
 def check_law(x, y, word):
@@ -149,6 +167,8 @@ def differences_of(name, checked, released):
     for (operands, got, want), (_, loose, _) in zip(checked, released, strict=True):
         if got not in ("p", loose):
             sys.exit("the two builds differ: %s %s: %s, %s" % (name, operands, got, loose))
+        # The Rust names no operand.
+        got, loose = (want if told == "e" and want in ERRORS else told for told in (got, loose))
         kept.append(got if got == want else "-")
         if got != want:
             differences.append(Difference(rule_of(name, operands), name, operands, want, got, loose))
@@ -162,6 +182,11 @@ def shown_result(result):
         value = shown((INTEGER if result[0] == "i" else NUMBER, int(result[1:17], 16)))
         return value + {"": "", "t": ", past", "f": ", on"}[result[17:]]
     return {"t": "true", "f": "false", "e": "error", "p": "panic"}.get(result, result)
+
+
+def shown_error(result):
+    """A result that may name an operand."""
+    return {"1": "error, 1", "2": "error, 2", "z": "zero divisor"}.get(result) or shown_result(result)
 
 
 def weight(operands):
@@ -188,7 +213,30 @@ def expected(all_sections):
     return "\n".join(lines + ["all %d agree" % total]) + "\n"
 
 
-def table(differences, facts):
+def lua_table(errors):
+    """Whom Lua names where the documents raise an error."""
+    lines = [
+        "",
+        "## Whom Lua names",
+        "",
+        "Lua raises an error just where the documents do. Its message names an operand, a zero divisor, or neither: `error`.",
+        "",
+        "| Lua | names | operators | errors | smallest | documents | Lua |",
+        "|---|---|---|---|---|---|---|",
+    ]
+    groups = {}
+    for e in errors:
+        groups.setdefault((e.source, e.cause, CLASS_OF[e.name], e.wanted), []).append(e)
+    for key in product(SOURCES, (AGREED, ORDER_OF_TESTS, COMPARED), CLASSES, ERRORS):
+        if key in groups:
+            source, cause, operators, wanted = key
+            e = min(groups[key], key=lambda e: weight(e.operands))
+            lines.append("| %s | %s | %s | %d | `%s` | %s | %s |" % (
+                SOURCES[source], cause, operators, len(groups[key]), shown_vector(e.name, e.operands), shown_error(wanted), shown_error(e.told)))
+    return lines
+
+
+def table(differences, facts, errors):
     lines = [
         "<!-- Written by compare.py. -->",
         "# Where the Rust differs from the documents, on the operands of values.txt and remainders.txt",
@@ -196,7 +244,7 @@ def table(differences, facts):
         "Built twice: with overflow checks, and as a release. Where the first doesn't panic the two agree, and its answers",
         "are the list that is kept. `vectors` counts those that differ from the documents, `panics` how many of them are",
         "panics, and `by chance` how many the release, where nothing is checked, has right all the same. Hard numbers are",
-        "those of remainders.txt.",
+        "those of remainders.txt. An error has the operand that it names beside it.",
         "",
         "| The Rust | operator | vectors | panics | by chance | smallest | documents | Rust | release |",
         "|---|---|---|---|---|---|---|---|---|",
@@ -209,7 +257,7 @@ def table(differences, facts):
                 lines.append("| %s | %s | %d | %d | %d | `%s` | %s | %s | %s |" % (
                     rule, name, len(group), sum(d.checked == "p" for d in group),
                     sum(d.released == d.wanted for d in group), shown_vector(plain(name), d.operands),
-                    shown_result(d.wanted), shown_result(d.checked), shown_result(d.released)))
+                    shown_error(d.wanted), shown_error(d.checked), shown_error(d.released)))
     lines += [
         "",
         "NumericForLoop is shown by index, limit and step, and answers the new index and whether it is past the end.",
@@ -220,6 +268,7 @@ def table(differences, facts):
         "|---|---|---|",
     ]
     lines += ["| `%s` | %s | %s |" % (text.replace("|", "\\|"), shown_result(a), shown_result(b)) for text, a, b in facts]
+    lines += lua_table(errors)
     return "\n".join(lines) + "\n"
 
 
@@ -230,7 +279,7 @@ def main(folder):
     def facts_of(name):
         return [line.split("\t") for line in open(path(name)).read().splitlines()]
 
-    lua = [held(path(name)) for name in ("lua5.3.list", "lua5.4.list")]
+    lua, errors = zip(*(held(path(name)) for name in ("lua5.3.list", "lua5.4.list")))
 
     rust, differences = [], []
     for s, r in zip(sections(path("checked.list")), sections(path("released.list")), strict=True):
@@ -242,7 +291,7 @@ def main(folder):
     facts = [(a[0], a[1], b[1]) for a, b in zip(facts_of("checked.facts"), facts_of("released.facts"), strict=True)]
     open(path("stdin"), "w").write("".join(map(list_of, [*lua, rust])))
     open(path("stdout"), "w").write(expected(sum(lua, []) + rust))
-    open(path("differences.md"), "w").write(table(differences, facts))
+    open(path("differences.md"), "w").write(table(differences, facts, sum(errors, [])))
 
 
 main(sys.argv[1])

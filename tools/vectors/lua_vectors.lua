@@ -8,8 +8,11 @@
 --
 -- A loop's test is not Lua's own `for` (document 01 keeps a mixed loop's limit as it is, and goes on at NaN): it is
 -- document 01's sentence, decided by Lua's `<`.
+--
+-- An error is whom Lua's message names (named.lua). So an operator's operands are parameters: of a constant Lua tells no name.
 
 local here = arg[0]:match("^(.*)/") or "."
+local named = dofile(here .. "/named.lua")
 local source = assert(({ ["Lua 5.3"] = "lua", ["Lua 5.4"] = "lua5.4" })[_VERSION])
 assert(os.setlocale("C", "all"))
 
@@ -63,7 +66,7 @@ local function left_out(op, a, b)
 end
 
 local function shown(ok, r)
-  if not ok then return "e" end
+  if not ok then return named(r) end
   if math.type(r) == "integer" then return string.format("i%016x", r) end
   if type(r) == "boolean" then return r and "t" or "f" end
   if r ~= r then return "n7ff8000000000000" end

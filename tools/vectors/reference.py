@@ -5,7 +5,7 @@ from nothing else of this project, so that three lists can be held against each 
 `compare.py` does that.
 
 A value is (kind, word) as in values.txt, or (4, bytes). An answer is what the lists have: `i` or `n` and 16 digits,
-`t`, `f`, or `e` for an error.
+`t`, `f`; or `e` for an error, and named.py tells whom it names.
 """
 from fractions import Fraction
 

@@ -19,12 +19,12 @@ sys.path[1:1] = [os.path.join(HERE, '..'), os.path.join(HERE, '..', 'vectors')]
 import texts
 from causes import RULES, shown_vector
 from generate import MANY, images
-from oracle.answers import DONE, RUNNING, TOO_DEEP, TOO_WIDE
+from oracle.answers import DONE, RUNNING, TOO_DEEP, TOO_WIDE, UNFIT_OPERAND, ZERO_DIVISOR
 from oracle.image import printed
 from oracle.kept import ROOT
 from oracle.machine import Machine
 from oracle.rules import BINARY, COMPARISONS, OPERATIONS
-from oracle.values import FUNCTION, NUMBER, ONE_NAN, STRING, double
+from oracle.values import FUNCTION, INTEGER, NUMBER, ONE_NAN, STRING, double
 
 BUILDS = ('checked', 'released')
 BUDGET, LONG = 1000000, 3000
@@ -67,7 +67,7 @@ class Oracle:
         return self.protos[q].instructions[p]
 
     def runs(self):
-        return self.machine.mark == RUNNING
+        return self.machine.number == RUNNING
 
     def step(self):
         self.machine.step(self.protos)
@@ -94,8 +94,8 @@ class Oracle:
     def answer(self, count):
         """Of a machine that has ended."""
         q, p = self.now()
-        if self.machine.mark:
-            return '%d %d %d' % (self.machine.mark, q, p)
+        if self.machine.number:
+            return '%d %d %d' % (self.machine.number, q, p)
         return '0 %d' % count + self.shown(self.machine.returned())
 
     def operands(self):
@@ -129,11 +129,17 @@ class Oracle:
 def outcome(oracle, before, depth):
     """What a step did, in a word."""
     m = oracle.machine
-    if m.mark not in (RUNNING, DONE):
+    if m.number not in (RUNNING, DONE):
         return 'raised'
-    if m.mark == DONE or m.depth != depth:
+    if m.number == DONE or m.depth != depth:
         return 'on'
     return 'on' if m.place().instruction == before.instruction + 1 else 'elsewhere'
+
+
+def is_zero_divisor(name, operands):
+    """Whether an integer is divided by an integer zero: one of a register, of a constant, or one that a string reads as."""
+    left, right = texts.figured(NAMES[name], operands)
+    return left[0] == INTEGER and right == (INTEGER, 0)
 
 
 def play(image, most):
@@ -146,8 +152,11 @@ def play(image, most):
         before, depth, name = oracle.now(), oracle.machine.depth, OPERATIONS[oracle.instruction().operation]
         kinds = tuple(kind for kind, _ in oracle.operands()) if image.family in (SMALL, SHORT, FIGURES) else ()
         flags = oracle.instruction().flags
+        by_zero = name in ZERO_DIVISOR and is_zero_divisor(name, oracle.operands())
         oracle.step()
         count += 1
+        if (oracle.machine.number in ZERO_DIVISOR.values()) != by_zero:
+            sys.exit('%s: %d, %s a zero divisor' % (image.name, oracle.machine.number, 'at' if by_zero else 'without'))
         end = outcome(oracle, before, depth)
         did[name, end] += 1
         features.add((name, flags, kinds, end))
@@ -160,6 +169,16 @@ def answered(build, how, text):
     """What a build answers to a list, without the names in it."""
     lines = subprocess.run([build, how], input=text, stdout=subprocess.PIPE, check=True, universal_newlines=True).stdout.splitlines()
     return [line for line in lines if not line.startswith('#')]
+
+
+# At a zero divisor the Rust raises FloorDivide and Modulo, as for an operand that is no number; document 02 has numbers of their own for it.
+ERROR_OF = {str(number): str(UNFIT_OPERAND[name]) for name, number in ZERO_DIVISOR.items()}
+
+
+def is_same(wanted, got):
+    """Whether the oracle's answer or state is the Rust's."""
+    number, blank, rest = wanted.partition(' ')
+    return got == ERROR_OF.get(number, number) + blank + rest
 
 
 def listed(found):
@@ -221,15 +240,15 @@ def differences(found, runs, folder):
     """For each build the images to which its answer isn't the oracle's."""
     builds = {build: os.path.join(folder, build) for build in BUILDS}
     got = {build: answered(path, 'images', listed(found)) for build, path in builds.items()}
-    apart = [i for i, run in enumerate(runs) if any(got[build][i] != run.answer for build in BUILDS)]
+    apart = [i for i, run in enumerate(runs) if not all(is_same(run.answer, got[build][i]) for build in BUILDS)]
     walks = [(found[i], list(states(found[i]))) for i in apart]
     return {build: list(explained(apart, walks, runs, got[build], path)) for build, path in builds.items()}
 
 
 def explained(apart, walks, runs, got, path):
     for i, (image, _), steps in zip(apart, walks, stepped(walks, path)):
-        parted = [(step, cause(image, step)) for step in steps if step.wanted != step.got]
-        if got[i] == runs[i].answer:
+        parted = [(step, cause(image, step)) for step in steps if not is_same(step.wanted, step.got)]
+        if is_same(runs[i].answer, got[i]):
             continue
         if not parted:
             sys.exit('%s: %s, the Rust %s, and every step is the same' % (image.name, runs[i].answer, got[i]))
@@ -332,6 +351,7 @@ def by_operation(runs):
 
 def page(found, long, apart, agreeing):
     steps = sum(sum(run.did.values()) for run in agreeing)
+    divided_by_zero = sum(run.answer.split(' ')[0] in ERROR_OF for run in agreeing)
     return '\n'.join([
         '<!-- Written by compare.py. -->',
         '# Whole images through the Rust\'s `run_vm`',
@@ -340,6 +360,10 @@ def page(found, long, apart, agreeing):
         'instructions, or raises its error at its instruction. Left out: images whose run takes more than %s instructions.' % format(LONG, ','),
         '',
         *counted(found, long, apart),
+        'A zero integer divisor is 45 or 46 in document 02. The Rust raises `FloorDivide` and `Modulo` there, as for an operand that is no number: %d of' %
+        divided_by_zero,
+        'the images that agree end at a zero divisor, and their operands say that it is one.',
+        '',
         'Those that differ, by what parts the two first; and every step of the oracle\'s runs of those images in which the Rust, from the same state, leaves',
         'something else, with the panics among them.',
         '',

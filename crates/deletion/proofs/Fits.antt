@@ -51,12 +51,12 @@ unfolding wordBytes
 word-length zero w l = omega arith
 word-length (suc n) w l = omega (arith, word-length n (w / 256) (w % 256 ∷ l))
 
-nine : (o : Outcome) → length (answerBytes o) ≡ 9
+ten : (o : Outcome) → length (answerBytes o) ≡ 10
 unfolding answerBytes wordBytes
-nine o = refl
+ten o = refl
 
-pub answer-length : (o : Outcome) → length (answerLine o) ≡ 19
-answer-length o = omega (arith, line-length (answerBytes o), nine o)
+pub answer-length : (o : Outcome) → length (answerLine o) ≡ 21
+answer-length o = omega (arith, line-length (answerBytes o), ten o)
 
 -- ---- a value
 

@@ -17,13 +17,14 @@ pub and-none : (l : List ℕ) → l ++ [] ≡ l
 and-none l = append-nil l
 
 pub answer-said :
-    (o : Outcome) (a b c d q x y : ℕ) → a ≡ (o .count / 256 / 256 / 256) % 256 → b ≡ (o .count / 256 / 256) % 256 → c ≡ (o .count / 256) % 256 → d ≡ o .count % 256
+    (o : Outcome) (a b c d q x y n : ℕ) → a ≡ (o .count / 256 / 256 / 256) % 256 → b ≡ (o .count / 256 / 256) % 256 → c ≡ (o .count / 256) % 256 → d ≡ o .count % 256
     → q ≡ o .prototype % 256
     → x ≡ (o .instruction / 256) % 256
     → y ≡ o .instruction % 256
-    → 0xf0 ∷ o .number ∷ a ∷ b ∷ c ∷ d ∷ q ∷ x ∷ y ∷ [] ≡ answerBytes o
+    → n ≡ o .operand % 256
+    → 0xf0 ∷ o .number ∷ a ∷ b ∷ c ∷ d ∷ q ∷ x ∷ y ∷ n ∷ [] ≡ answerBytes o
 unfolding answerBytes wordBytes
-answer-said o a b c d q x y ea eb ec ed eq ex ey = rw (ea, eb, ec, ed, eq, ex, ey)
+answer-said o a b c d q x y n ea eb ec ed eq ex ey en = rw (ea, eb, ec, ed, eq, ex, ey, en)
 
 pub byte-said : (k w a : ℕ) → a ≡ w % 256 → 0xb0 ∷ k ∷ a ∷ [] ≡ 0xb0 ∷ k ∷ wordBytes 1 w []
 unfolding wordBytes

@@ -76,9 +76,9 @@ outputOf image = readOutput (readOf image blankStorage) (leftOf (readOf image bl
 
 -- ---- in the lent output
 
--- how much of it any image may take: the answer's line of 19 bytes, and 255 lines of values, of 133 bytes each at most
+-- how much of it any image may take: the answer's line of 21 bytes, and 255 lines of values, of 133 bytes each at most
 abbrev pub outputSize : ℕ
-outputSize = 33934
+outputSize = 33936
 
 -- proofs/Fits shows it
 abbrev pub AlwaysFits : Type 0

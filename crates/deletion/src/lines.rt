@@ -26,6 +26,7 @@ pub(crate) fn answer_line(o: Outcome, out: &mut [u8]) -> usize
     let c = o.count as u64;
     let q = o.prototype as u64;
     let p = o.instruction as u64;
+    let n = o.operand as u64;
     let bytes = [
         0xf0,
         o.number,
@@ -36,6 +37,7 @@ pub(crate) fn answer_line(o: Outcome, out: &mut [u8]) -> usize
         low(q),
         low(p / 256),
         low(p),
+        low(n),
     ];
     line(&bytes, out)
 }

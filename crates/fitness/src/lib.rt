@@ -31,7 +31,7 @@ fn reads_back(
 // ---- the mark
 
 // Running, finished, or a Lua error's number.
-fn mark_fits(m: u64) -> bool
+fn mark_fits(m: u8) -> bool
     ensures { λ r. ⌜ r ≡ markFits m ⌝ }
 {
     (m == 70) | (m == 0) | state::is_lua_error(m)
@@ -241,6 +241,9 @@ pub fn fit(
         return false;
     }
     if !mark_fits(state::mark(frames)) {
+        return false;
+    }
+    if 3 < state::operand(frames) {
         return false;
     }
     if !stack_fits(table, code, frames) {

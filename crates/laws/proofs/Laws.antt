@@ -1,4 +1,4 @@
--- The demands on one page: a proof of each statement of specs/Statements, and of document 02's law of loops (specs/Chunks, specs/Needed). Assumes nothing.
+-- The demands on one page: a proof of each statement of specs/Statements, and of document 02's laws: of loops (specs/Chunks, specs/Needed), of whom an error names (specs/Operands). Assumes nothing.
 use mathlib.Core.Path.{_≡_, refl}
 use mathlib.Core.List.{List, []}
 use Prim.Native.Nat.{ℕ}
@@ -14,6 +14,7 @@ use Rattle.laws.specs.Statements.{afterRuns}
 use Rattle.laws.specs.Session as session
 use Rattle.laws.specs.Chunks as chunks
 use Rattle.laws.specs.Needed as needed
+use Rattle.laws.specs.Operands as operands
 use Rattle.laws.proofs.NoFault as ends
 use Rattle.laws.proofs.Runs.{run-whole}
 use Rattle.laws.proofs.Started.{begun-demanded}
@@ -25,6 +26,7 @@ use Rattle.laws.proofs.Stories as stories
 use Rattle.laws.proofs.Listing as listing
 use Rattle.laws.proofs.Carrying as carrying
 use Rattle.laws.proofs.Needed as computed
+use Rattle.laws.proofs.Operands as naming
 
 -- ---- demand 1: the sizes
 
@@ -146,3 +148,26 @@ keeping-needed = computed.keeping-needed
 
 pub returning-needed : needed.ReturningNeeded
 returning-needed = computed.returning-needed
+
+-- ---- document 02, 5/12: which operand was wrong
+
+pub raises-as-said : operands.RaisesAsSaid
+raises-as-said = naming.raises-as-said
+
+pub first-unfit-named : operands.FirstUnfitNamed
+first-unfit-named = naming.first-unfit-named
+
+pub zero-named : operands.ZeroNamed
+zero-named = naming.zero-named
+
+pub unfit-raises : operands.UnfitRaises
+unfit-raises = naming.unfit-raises
+
+pub named-in-runs : operands.NamedInRuns
+named-in-runs = naming.named-in-runs
+
+pub answered-again : operands.AnsweredAgain
+answered-again = naming.answered-again
+
+pub nil-named : operands.NilNamed
+nil-named = naming.nil-named

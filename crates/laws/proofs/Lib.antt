@@ -26,4 +26,5 @@ pub mod Carrying
 pub mod Walks
 pub mod Trails
 pub mod Needed
+pub mod Operands
 pub mod Laws

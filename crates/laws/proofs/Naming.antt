@@ -1,15 +1,17 @@
 -- What an effect says of its instruction: only a Call enters, only a Return leaves, and in an accepted image none faults. Assumes nothing.
 use mathlib.Core.Path.{_≡_, refl, sym, _∙_}
-use mathlib.Core.Bool.{Bool, true, Bool·beq, _&&_, false≢true}
+use mathlib.Core.Bool.{Bool, true, Bool·beq, false≢true}
 use mathlib.Core.List.{List}
 use Prim.Native.Nat.{ℕ, _<_}
 use borrow.Author.Tests.{lt-ltb}
+use lib.Dec.{eqb}
 use Rattle.choices.proofs.Choices.{cond-cases}
 use Rattle.storage.specs.Layout.{Storage}
 use Rattle.storage.specs.Fields.{prototypesOf, instructionsOf}
 use Rattle.constant.specs.Values.{truth, valueOf}
-use Rattle.constant.specs.Operators.{addOf}
-use Rattle.comparison.specs.Comparison.{lessThanOf, lessEqualOf, isNumeric, pastEndOf}
+use Rattle.constant.specs.Named.{firstUnfit}
+use Rattle.constant.specs.Operators.{isNumeric, addOf, subtractOf}
+use Rattle.comparison.specs.Comparison.{lessThanOf, lessEqualOf, pastEndOf}
 use Rattle.constant.specs.declared.Value.{Value}
 use Rattle.constant.specs.declared.Answer.{Answer}
 use Rattle.constant.specs.declared.Answer.the-variants.{Is, Raises}
@@ -28,6 +30,7 @@ use Rattle.checker.specs.declared.Instruction.{Instruction}
 use Rattle.checker.specs.declared.Instruction.the-variants as instruction
 use Rattle.checker.proofs.Lowest.{unbroken, not-carried}
 use Rattle.effects.specs.declared.Go.{Go}
+use Rattle.effects.specs.declared.Go.the-variants.{To}
 use Rattle.effects.specs.declared.Effect.{Effect}
 use Rattle.effects.specs.declared.Effect.the-variants.{Set, Goto, Clear, Loop, Enter, Leave, Fail, Fault}
 use Rattle.effects.specs.Effects.{Sight, stored, skipIf, decided, unaryEffect, compareEffect, testSetEffect, prepEffect, loopWith, loopEffect, effectOf}
@@ -60,19 +63,19 @@ Tells i (Clear r n) = Unit {0}
 Tells i (Loop r k w t) = Unit {0}
 Tells i (Enter function arguments) = isCall (classOf i) ≡ true
 Tells i (Leave start n) = isReturn (classOf i) ≡ true
-Tells i (Fail n) = Unit {0}
+Tells i (Fail n named) = Unit {0}
 Tells i Fault = ⊥
 
 module _ (i : Instruction) where
   stored-tells : (r : ℕ) (go : Go) (a : Answer) → Tells i (stored r go a)
   unfolding stored
   stored-tells r go (Is v) = tt
-  stored-tells r go (Raises e) = tt
+  stored-tells r go (Raises e named) = tt
 
   decided-tells : (b : Bool) (c : Compared) → Tells i (decided b c)
   unfolding decided skipIf
   decided-tells b (compared.Decided d) = tt
-  decided-tells b (compared.Raises e) = tt
+  decided-tells b (compared.Raises e named) = tt
 
   unary-tells : (words texts : List ℕ) (u : Unary) (r k w : ℕ) → Tells i (unaryEffect words texts u r k w)
   unfolding unaryEffect
@@ -94,16 +97,22 @@ module _ (i : Instruction) where
   loop-with-tells : (limit step : Value) (r t : ℕ) (a : Answer) → Tells i (loopWith limit step r t a)
   unfolding loopWith
   loop-with-tells limit step r t (Is v) = cond-cases (Tells i) (pastEndOf v limit step) _ _ (λ _. tt) (λ _. tt)
-  loop-with-tells limit step r t (Raises e) = tt
+  loop-with-tells limit step r t (Raises e named) = tt
+
+  prep-tells : (index step : Value) (r t : ℕ) → Tells i (prepEffect index step r t)
+  unfolding prepEffect
+  prep-tells index step r t =
+      cond-cases (Tells i) (eqb (firstUnfit (isNumeric index) true (isNumeric step)) 0) _ _
+      (λ _. stored-tells r (To t) (subtractOf index step)) (λ _. tt)
 
   loop-tells : (index limit step : Value) (r t : ℕ) → Tells i (loopEffect index limit step r t)
   unfolding loopEffect
   loop-tells index limit step r t =
-      cond-cases (Tells i) (isNumeric index && isNumeric limit && isNumeric step) _ _
+      cond-cases (Tells i) (eqb (firstUnfit (isNumeric index) (isNumeric limit) (isNumeric step)) 0) _ _
       (λ _. loop-with-tells limit step r t (addOf index step)) (λ _. tt)
 
 pub effect-tells : (g : Sight) (i : Instruction) → Good i → Tells i (effectOf g i)
-unfolding effectOf skipIf prepEffect
+unfolding effectOf skipIf
 effect-tells g (instruction.Unary u d s) n = unary-tells (instruction.Unary u d s) (g .constWords) (g .texts) u d _ _
 effect-tells g (instruction.LoadConstant d c) n = tt
 effect-tells g (instruction.LoadBool d b to) n = tt
@@ -114,7 +123,7 @@ effect-tells g (instruction.Jump t) n = tt
 effect-tells g (instruction.Test r b) n = tt
 effect-tells g (instruction.TestSet d r b) n = test-set-tells (instruction.TestSet d r b) d b _ _
 effect-tells g (instruction.Closure d q) n = tt
-effect-tells g (instruction.NumericForPrep b t) n = stored-tells (instruction.NumericForPrep b t) b _ _
+effect-tells g (instruction.NumericForPrep b t) n = prep-tells (instruction.NumericForPrep b t) _ _ b t
 effect-tells g (instruction.NumericForLoop b t) n = loop-tells (instruction.NumericForLoop b t) _ _ _ b t
 effect-tells g (instruction.Compare c b l r) n = compare-tells (instruction.Compare c b l r) _ _ c b _ _
 effect-tells g (instruction.Binary o d l r) n = stored-tells (instruction.Binary o d l r) d _ _

@@ -13,6 +13,7 @@ use Rattle.checker.specs.Kept.{Demanded}
 use Rattle.choices.proofs.Choices.{cond-cases}
 use Rattle.state.specs.Frames.{markIn, depthIn, prototypeIn, instructionIn, baseOf}
 use Rattle.state.specs.Record.{innermost}
+use Rattle.effects.proofs.Raises.{named-few}
 use Rattle.effects.specs.Effects.{Sight, sight, effectOf}
 use Rattle.state.proofs.Windows.{base-last}
 use Rattle.fitness.specs.Fit.{markFits, decodedAt, registerFits, fitOf}
@@ -68,6 +69,7 @@ step-stays S s demanded h =
     (effect-holds S (demanded .long) (readable-back (demanded .reads)) (s .kinds) (s .words) q base p hq
     (live t (S .kinds) (baseOf t f (depthIn f)) base (registersOf t q) (s .kinds) (s .words) (h .fit .valid) end) hp)
     (effect-tells g (decodedAt t (S .code) q p) (decoded-good S demanded q p hq hp))
+    (named-few g (decodedAt t (S .code) q p))
 
 module _ (S : Storage) (demanded : Demanded S) where
   -- what a run from a running state, with so many instructions left and so many done, answers and leaves

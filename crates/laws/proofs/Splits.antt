@@ -14,10 +14,10 @@ use Rattle.state.proofs.Fields.{mark-length, mark-mark}
 use Rattle.fitness.specs.Fit.{fitOf}
 use Rattle.fitness.proofs.Facts.{fit-facts}
 use Rattle.state.specs.States.{State, framesSize}
-use Rattle.step.specs.Step.{Turn, on, stop, fault, marked, stepOf}
-use Rattle.step.specs.Run.{Ended, ended, outcome, answerOf, standingOf, after, runFrom, runOf}
+use Rattle.step.specs.Step.{Turn, on, stop, fault, stepOf}
+use Rattle.step.specs.Run.{Ended, ended, outcome, naming, answerOf, standingOf, after, runFrom, runOf}
 use Rattle.laws.specs.Statements.{joined, twoRuns, Resumable, SplitAny}
-use Rattle.laws.proofs.Marks.{Halts, halts-apart, Marks, marks}
+use Rattle.laws.proofs.Marks.{Halts, halts-apart, halts-small, MarkedAs, Marks, marks}
 
 -- how a run of a running machine ended, before it is answered by a number: with its count and the state that it left
 data Ran : Type 0 where
@@ -114,16 +114,17 @@ module _ (S : Storage) where
   Stands (halted n c t) = Halts n × (framesSize ≤ length (t .frames) → markIn (t .frames) ≡ n)
   Stands (broke c t) = (markIn (t .frames) ≡ 70) × (stepOf S t ≡ fault t)
 
-  stopped : (s : State) (n : ℕ) (t : State) → t ≡ marked n s → framesSize ≤ length (t .frames) → markIn (t .frames) ≡ n
-  stopped s n t e l =
-      let h : length (t .frames) ≡ length (s .frames) = ap (λ (x : State). length (x .frames)) e ∙ mark-length (s .frames) n in
-      ap (λ (x : State). markIn (x .frames)) e ∙ mark-mark (s .frames) n (omega arith)
+  pub stopped : (s : State) (n : ℕ) (t : State) → MarkedAs n s t → Halts n → framesSize ≤ length (t .frames) → markIn (t .frames) ≡ n
+  stopped s n t m halts l =
+      let e = m .same in
+      let h : length (t .frames) ≡ length (s .frames) = ap (λ (x : State). length (x .frames)) e ∙ mark-length (s .frames) n (m .operand) in
+      ap (λ (x : State). markIn (x .frames)) e ∙ mark-mark (s .frames) n (m .operand) (omega arith) (halts-small n halts)
 
   stands-turn :
       (s : State) → markIn (s .frames) ≡ 70 → (x : Turn) → stepOf S s ≡ x → Marks s x → (done : ℕ) (g : State → Ran)
       → ((t : State) → markIn (t .frames) ≡ 70 → Stands (g t)) → Stands (turned x done g)
   stands-turn s m (on t) e k done g h = h t (k ∙ m)
-  stands-turn s m (stop n t) e k done g h = (k .1, λ l. stopped s n t (k .0) l)
+  stands-turn s m (stop n t) e k done g h = (k .1, λ l. stopped s n t (k .0) (k .1) l)
   stands-turn s m (fault t) e k done g h = (ap (λ (x : State). markIn (x .frames)) k ∙ m, ap (stepOf S) k ∙ e)
 
   stands : (left done : ℕ) (s : State) → markIn (s .frames) ≡ 70 → Stands (ranFrom left done s)
@@ -216,7 +217,7 @@ module _ (S : Storage) where
         let o = standingOf S s in
         let z = nothing-counted s in
         let e : o .count + o .count ≡ o .count = omega arith in
-        ap (λ (c : ℕ). ended (outcome (o .number) c (o .prototype) (o .instruction)) s) e
+        ap (λ (c : ℕ). ended (naming (outcome (o .number) c (o .prototype) (o .instruction)) (o .operand)) s) e
 
     splits-stood : eqb ((standingOf S s) .number) 70 ≡ false → twoRuns S a b s ≡ runOf S (a + b) s
     splits-stood e =

@@ -17,13 +17,13 @@ use Rattle.laws.proofs.Frames.{there-same, waits-same, there-prototype,
 
 module _ (table code f : List ℕ) (h : Stack table code f) where
   -- another mark
-  pub stack-mark : (x : ℕ) → Stack table code (markWith x f)
-  stack-mark x =
-      let e = mark-depth f x in
+  pub stack-mark : (x o : ℕ) → Stack table code (markWith x o f)
+  stack-mark x o =
+      let e = mark-depth f x o in
       record {
-        steady = steady-marked table f (h .steady) x;
-        there = λ i l. there-same table code f (markWith x f) i (mark-same f x i) ∙ h .there i (rw e at l);
-        waits = λ i l. waits-same table code f (markWith x f) i (mark-same f x i) ∙ h .waits i (rw e at l);
+        steady = steady-marked table f (h .steady) x o;
+        there = λ i l. there-same table code f (markWith x o f) i (mark-same f x o i) ∙ h .there i (rw e at l);
+        waits = λ i l. waits-same table code f (markWith x o f) i (mark-same f x o i) ∙ h .waits i (rw e at l);
       }
 
   -- one activation less

@@ -17,9 +17,9 @@ use Rattle.checker.specs.Kept.{Demanded}
 use Rattle.checker.specs.declared.Checked.{Checked}
 use Rattle.checker.specs.declared.Checked.the-variants.{Accepted, Refused}
 use Rattle.checker.proofs.Exact.{exact}
-use Rattle.state.specs.Frames.{markIn, depthIn, prototypeIn, instructionIn, baseOf, markWith, depthWith, openedWith}
+use Rattle.state.specs.Frames.{markIn, operandIn, depthIn, prototypeIn, instructionIn, baseOf, markWith, depthWith, openedWith}
 use Rattle.state.specs.Window.{fewer}
-use Rattle.state.proofs.Fields.{mark-length, mark-mark, depth-length, depth-mark, depth-depth, opened-length, opened-mark, opened-depth, opened-prototype, opened-instruction}
+use Rattle.state.proofs.Fields.{mark-length, mark-mark, mark-operand, depth-length, depth-mark, depth-operand, depth-depth, opened-length, opened-mark, opened-operand, opened-depth, opened-prototype, opened-instruction}
 use Rattle.state.proofs.Windows.{base-none, base-last}
 use Rattle.fitness.specs.Fit.{valueFits, fitOf}
 use Rattle.fitness.specs.Facts.{Fit}
@@ -91,7 +91,7 @@ module _
   t = S .table
 
   abbrev f1 : List ℕ
-  f1 = markWith 70 (s .frames)
+  f1 = markWith 70 0 (s .frames)
 
   abbrev f2 : List ℕ
   f2 = depthWith 1 f1
@@ -103,7 +103,7 @@ module _
   lengths = long-facts S s long
 
   f1-long : framesSize ≤ length f1
-  f1-long = omega (arith, lengths .0, mark-length (s .frames) 70)
+  f1-long = omega (arith, lengths .0, mark-length (s .frames) 70 0)
 
   f2-long : framesSize ≤ length f2
   f2-long = omega (arith, f1-long, depth-length f1 1)
@@ -112,7 +112,10 @@ module _
   depth = opened-depth f2 0 0 ∙ depth-depth f1 1 f1-long
 
   mark : markIn g ≡ 70
-  mark = opened-mark f2 0 0 ∙ depth-mark f1 1 ∙ mark-mark (s .frames) 70 (lengths .0)
+  mark = opened-mark f2 0 0 ∙ depth-mark f1 1 ∙ mark-mark (s .frames) 70 0 (lengths .0) (omega arith)
+
+  operand : operandIn g ≡ 0
+  operand = opened-operand f2 0 0 ∙ depth-operand f1 1 ∙ mark-operand (s .frames) 70 0 (lengths .0) (omega arith)
 
   prototype : prototypeIn g 0 ≡ 0
   prototype = opened-prototype f2 0 0 (omega arith) f2-long
@@ -141,6 +144,7 @@ module _
         kinds-long = rw length-first lk;
         words-long = rw length-first lw;
         mark = rw mark running-fits;
+        operand = rw operand (omega arith);
         stack = record {
           steady = record {
             long = omega (arith, f2-long, opened-length f2 0 0);

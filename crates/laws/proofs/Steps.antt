@@ -20,16 +20,17 @@ use Rattle.choices.proofs.Choices.{and-right, and-left, cond-cases}
 use Rattle.state.specs.Frames.{markIn, depthIn, prototypeIn, instructionIn, baseOf, markWith, depthWith, instructionWith, openedWith}
 use Rattle.state.specs.Window.{fewer, windowOf}
 use Rattle.state.specs.declared.Activation.{Activation}
+use Rattle.effects.specs.Raising.{raisedBy}
 use Rattle.effects.specs.declared.Effect.{Effect}
 use Rattle.effects.specs.declared.Effect.the-variants.{Set, Goto, Clear, Loop, Enter, Leave, Fail, Fault}
 use Rattle.effects.specs.declared.Go.the-variants.{Next, To}
 use Rattle.fitness.specs.Fit.{decodedAt, isCall, isReturn, beforeIn, waitsIn, valueFits}
 use Rattle.state.specs.States.{State, state, registersSize}
 use Rattle.state.specs.Marks.{isLuaError}
-use Rattle.state.proofs.Marks.{error-some}
-use Rattle.state.proofs.Fields.{mark-mark, mark-depth, mark-same, depth-mark, gone-mark, gone-depth, gone-prototype, gone-instruction}
+use Rattle.state.proofs.Marks.{error-bounds, error-some}
+use Rattle.state.proofs.Fields.{mark-mark, mark-operand, mark-depth, mark-same, depth-mark, depth-operand, gone-mark, gone-operand, gone-depth, gone-prototype, gone-instruction}
 use Rattle.state.proofs.Windows.{base-last, base-mono, base-same}
-use Rattle.state.proofs.Stacks.{marked-end, gone-end, closed-end, grown-mark, grown-end}
+use Rattle.state.proofs.Stacks.{marked-end, gone-end, closed-end, grown-mark, grown-operand, grown-end}
 use Rattle.fitness.specs.Facts.{Stack, Valid, Fit}
 use Rattle.fitness.proofs.Facts.{running-fits, finished-fits, error-fits}
 use Rattle.reach.specs.Suits.{Suits}
@@ -104,9 +105,10 @@ module _ (S : Storage) (s : State) (h : Fit S s) (runs : markIn (s .frames) ≡ 
 
   -- ---- an error, and the outermost Return
 
-  fails : (n : ℕ) → LuaError n → Halted S n (marked n s)
-  fails n e =
-      let mm : markIn (markWith n f) ≡ n = mark-mark f n (st .steady .long) in
+  fails : (n operand : ℕ) → LuaError n → operand ≤ 3 → Halted S n (marked n operand s)
+  fails n operand e few =
+      let small : n < 256 = omega (arith, error-bounds n e .1) in
+      let mm : markIn (markWith n operand f) ≡ n = mark-mark f n operand (st .steady .long) small in
       record {
         fit = record {
           lent = h .lent;
@@ -114,9 +116,10 @@ module _ (S : Storage) (s : State) (h : Fit S s) (runs : markIn (s .frames) ≡ 
           kinds-long = h .kinds-long;
           words-long = h .words-long;
           mark = rw mm (error-fits n e);
-          stack = stack-mark t (S .code) f st n;
+          operand = rw (mark-operand f n operand (st .steady .long) small) few;
+          stack = stack-mark t (S .code) f st n operand;
           closed = (λ z. absurd (error-some n e (sym mm ∙ z)));
-          valid = rw (marked-end t f n) (h .valid);
+          valid = rw (marked-end t f n operand) (h .valid);
         };
         mark = mm;
         halts = failed e;
@@ -125,11 +128,11 @@ module _ (S : Storage) (s : State) (h : Fit S s) (runs : markIn (s .frames) ≡ 
   returns-at : d ≡ 1 → isReturn (classOf here) ≡ true → isReturn (classOf (decodedAt t (S .code) (prototypeIn f 0) (instructionIn f 0))) ≡ true
   returns-at e r = let z : d - 1 ≡ 0 = omega arith in rw z at r
 
-  finishes : d ≤ 1 → isReturn (classOf here) ≡ true → Halted S 0 (marked 0 s)
+  finishes : d ≤ 1 → isReturn (classOf here) ≡ true → Halted S 0 (marked 0 0 s)
   finishes one r =
-      let mm : markIn (markWith 0 f) ≡ 0 = mark-mark f 0 (st .steady .long) in
+      let mm : markIn (markWith 0 0 f) ≡ 0 = mark-mark f 0 0 (st .steady .long) (omega arith) in
       let e : d ≡ 1 = omega (arith, st .steady .some) in
-      let same = mark-same f 0 0 in
+      let same = mark-same f 0 0 0 in
       record {
         fit = record {
           lent = h .lent;
@@ -137,9 +140,10 @@ module _ (S : Storage) (s : State) (h : Fit S s) (runs : markIn (s .frames) ≡ 
           kinds-long = h .kinds-long;
           words-long = h .words-long;
           mark = rw mm finished-fits;
-          stack = stack-mark t (S .code) f st 0;
-          closed = (λ z. (mark-depth f 0 ∙ e, rw (same .prototype, same .instruction) (returns-at e r)));
-          valid = rw (marked-end t f 0) (h .valid);
+          operand = rw (mark-operand f 0 0 (st .steady .long) (omega arith)) (omega arith);
+          stack = stack-mark t (S .code) f st 0 0;
+          closed = (λ z. (mark-depth f 0 0 ∙ e, rw (same .prototype, same .instruction) (returns-at e r)));
+          valid = rw (marked-end t f 0 0) (h .valid);
         };
         mark = mm;
         halts = finished;
@@ -159,6 +163,7 @@ module _ (S : Storage) (s : State) (h : Fit S s) (runs : markIn (s .frames) ≡ 
           kinds-long = lk;
           words-long = lw;
           mark = rw mg running-fits;
+          operand = rw (gone-operand f (d - 1) x) (h .operand);
           stack = stack-gone t (S .code) f st x to;
           closed = (λ e. absurd (let z = sym mg ∙ e in omega arith));
           valid = rw (gone-end t f (d - 1) x) v;
@@ -235,6 +240,7 @@ module _ (S : Storage) (s : State) (h : Fit S s) (runs : markIn (s .frames) ≡ 
             kinds-long = rw length-window lk;
             words-long = rw length-window lw;
             mark = rw mg running-fits;
+            operand = rw (grown-operand t gone d r (stg .steady) ed few, gone-operand f (d - 1) (p + 1)) (h .operand);
             stack = stack-grown t (S .code) gone stg d r ed few waiting (known fn) more fb;
             closed = (λ e. absurd (let z = sym mg ∙ e in omega arith));
             valid = rw (grown-end t gone d r (stg .steady) ed few, eb)
@@ -253,10 +259,10 @@ module _ (S : Storage) (s : State) (h : Fit S s) (runs : markIn (s .frames) ≡ 
     unfolding enterOf isLuaError
     enter-stays =
         cond-cases (Stays S) (eqb (getD (s .kinds) (base + function) 0) 5) _ _
-        (λ fn. cond-cases (Stays S) (leb 16 d) _ _ (λ _. fails 51 refl)
-        (λ few. cond-cases (Stays S) (ltb 2048 (base + registersOf t q + size)) _ _ (λ _. fails 52 refl)
+        (λ fn. cond-cases (Stays S) (leb 16 d) _ _ (λ _. fails 51 0 refl (omega arith))
+        (λ few. cond-cases (Stays S) (ltb 2048 (base + registersOf t q + size)) _ _ (λ _. fails 52 0 refl (omega arith))
         (λ fits. entered (eqb-true _ _ fn) (leb-false _ _ few) (ltb-false _ _ fits))))
-        (λ _. fails 50 refl)
+        (λ _. fails 50 0 refl (omega arith))
 
   -- ---- Return
 
@@ -278,6 +284,7 @@ module _ (S : Storage) (s : State) (h : Fit S s) (runs : markIn (s .frames) ≡ 
             kinds-long = rw length-window lk;
             words-long = rw length-window lw;
             mark = rw mp running-fits;
+            operand = rw (depth-operand f (d - 1)) (h .operand);
             stack = stack-pop t (S .code) f st deep;
             closed = (λ e. absurd (let z = sym mp ∙ e in omega arith));
             valid = rw (closed-end t f (st .steady) deep)
@@ -310,23 +317,23 @@ module _ (S : Storage) (s : State) (h : Fit S s) (runs : markIn (s .frames) ≡ 
 
   -- ---- an effect a line
 
-  pub applied : Demanded S → (e : Effect) → Suits (limitsOf t q) p e → Holds S e → Tells here e → Stays S (carriedOut t (S .code) a s e)
-  unfolding carriedOut
-  applied demanded (Set r k w go) u v n =
+  pub applied : Demanded S → (e : Effect) → Suits (limitsOf t q) p e → Holds S e → Tells here e → raisedBy e .named ≤ 3 → Stays S (carriedOut t (S .code) a s e)
+  unfolding carriedOut raisedBy
+  applied demanded (Set r k w go) u v n few =
       let lk = h .kinds-long in
       let lw = h .words-long in
       let i = st .steady .ends in
       moved _ _ _ (placed-there a (instructionsOf t q) go (u .1)) (rw length-set lk) (rw length-set lw)
       (put-keep t (S .kinds) (baseOf t f d) (base + r) k w (s .kinds) (s .words) (omega arith) (omega arith) v (h .valid))
-  applied demanded (Goto go) u v n =
+  applied demanded (Goto go) u v n few =
       moved (s .kinds) (s .words) _ (placed-there a (instructionsOf t q) go u) (h .kinds-long) (h .words-long) (h .valid)
-  applied demanded (Clear r m) u v n =
+  applied demanded (Clear r m) u v n few =
       let lk = h .kinds-long in
       let lw = h .words-long in
       let i = st .steady .ends in
       moved _ _ _ (placed-there a (instructionsOf t q) Next (u .1)) (rw length-stores lk) (rw length-stores lw)
       (fill-keep t (S .kinds) m (base + r) (baseOf t f d) (s .kinds) (s .words) (omega arith) (omega arith) (h .valid))
-  applied demanded (Loop r k w to) u v n =
+  applied demanded (Loop r k w to) u v n few =
       let lk = h .kinds-long in
       let lw = h .words-long in
       let i = st .steady .ends in
@@ -334,7 +341,7 @@ module _ (S : Storage) (s : State) (h : Fit S s) (runs : markIn (s .frames) ≡ 
       (put-keep t (S .kinds) (baseOf t f d) (base + (r + 3)) k w (set (s .kinds) (base + r) k) (set (s .words) (base + r) w)
       (rw length-set (omega arith)) (rw length-set (omega arith)) v
       (put-keep t (S .kinds) (baseOf t f d) (base + r) k w (s .kinds) (s .words) (omega arith) (omega arith) v (h .valid)))
-  applied demanded (Enter function arguments) u v n = enter-stays demanded function arguments (u .0) (u .1) n
-  applied demanded (Leave start m) u v n = leave-stays start m u n
-  applied demanded (Fail m) u v n = fails m u
-  applied demanded Fault u v n = absurd n
+  applied demanded (Enter function arguments) u v n few = enter-stays demanded function arguments (u .0) (u .1) n
+  applied demanded (Leave start m) u v n few = leave-stays start m u n
+  applied demanded (Fail m named) u v n few = fails m named u few
+  applied demanded Fault u v n few = absurd n

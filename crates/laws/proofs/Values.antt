@@ -71,7 +71,7 @@ module _ (S : Storage) where
   decided-holds : (byte : Bool) (c : Compared) → Holds S (decided byte c)
   unfolding decided
   decided-holds byte (compared.Decided b) = skip-holds b byte
-  decided-holds byte (compared.Raises e) = tt
+  decided-holds byte (compared.Raises e named) = tt
 
   compare-holds : (words texts : List ℕ) (c : Compare) (byte : Bool) (a b : Value) → Holds S (compareEffect words texts c byte a b)
   unfolding compareEffect

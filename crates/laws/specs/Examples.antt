@@ -14,7 +14,7 @@ readFrom n frames =
 
 -- running at instruction 0 of prototype 0, as a start would leave it
 abbrev pub running : State
-running = state (depthWith 1 (markWith 70 (blankState .frames))) (blankState .kinds) (blankState .words)
+running = state (depthWith 1 (markWith 70 0 (blankState .frames))) (blankState .kinds) (blankState .words)
 
 -- Closure, Call, Return; prototype 1 has no instruction, so the checker refuses the image
 abbrev pub hollow : Storage

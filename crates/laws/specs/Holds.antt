@@ -13,5 +13,5 @@ Holds S (Clear r n) = Unit {0}
 Holds S (Loop r k w t) = valueFits (S .table) (S .kinds) k w ≡ true
 Holds S (Enter function arguments) = Unit {0}
 Holds S (Leave start n) = Unit {0}
-Holds S (Fail n) = Unit {0}
+Holds S (Fail n named) = Unit {0}
 Holds S Fault = Unit {0}

@@ -6,3 +6,4 @@ pub mod Holds
 pub mod Passes
 pub mod Chunks
 pub mod Needed
+pub mod Operands

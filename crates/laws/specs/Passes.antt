@@ -89,7 +89,7 @@ opensPass (Clear r n) = false
 opensPass (Loop r k w t) = true
 opensPass (Enter function arguments) = false
 opensPass (Leave start n) = false
-opensPass (Fail n) = false
+opensPass (Fail n named) = false
 opensPass Fault = false
 
 -- whether the next instruction of s begins one

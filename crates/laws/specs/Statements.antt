@@ -20,7 +20,7 @@ use Rattle.fitness.specs.Fit.{fitOf}
 use Rattle.state.specs.Marks.{isLuaError}
 use Rattle.state.specs.States.{State, framesSize, registersSize}
 use Rattle.step.specs.Step.{on, stop, fault, stepOf}
-use Rattle.step.specs.Run.{Ended, ended, outcome, answerOf, standingOf, runOf}
+use Rattle.step.specs.Run.{Ended, ended, outcome, naming, answerOf, standingOf, runOf}
 use Rattle.step.specs.declared.Outcome.{Outcome}
 use Rattle.starter.specs.Start.{startOf, started}
 
@@ -83,7 +83,7 @@ StaysFit =
 
 -- ---- how a run ends: "Numbers the machine answers"
 
--- "30-44 operator error", "50, 51, 52"
+-- "30-44 operator error", "50, 51, 52"; "45 for a zero integer divisor in IDiv, 46 in Mod"
 abbrev pub LuaError : ℕ → Type 0
 LuaError n = isLuaError n ≡ true
 
@@ -102,11 +102,11 @@ ThreeEnds =
 
 -- ---- demand 3: "Runs of a, then b, are one run of a + b."
 
--- two runs' answers as one: the last number and place, the counts added up, the last state
+-- two runs' answers as one: the last number, place and operand, the counts added up, the last state
 abbrev pub joined : Ended → Ended → Ended
 joined x y =
     ended
-    (outcome (y .answer .number) (x .answer .count + y .answer .count) (y .answer .prototype) (y .answer .instruction))
+    (naming (outcome (y .answer .number) (x .answer .count + y .answer .count) (y .answer .prototype) (y .answer .instruction)) (y .answer .operand))
     (y .state)
 
 abbrev pub twoRuns : Storage → ℕ → ℕ → State → Ended

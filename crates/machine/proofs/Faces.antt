@@ -137,14 +137,18 @@ answers : (s t : Said) → s ≡ t → s .answer ≡ t .answer
 answers s t e = cc
 
 module _ (o : Outcome) (l : List ℕ) where
-  pub told-four :
+  pub told-outcome :
       (a : List ℕ) → a ≡ set l 0 (o .number) → (b : List ℕ) → b ≡ set a 1 (o .count) → (q : ℕ) → q ≡ o .prototype % 2 ^ 32 → (d : List ℕ) → d ≡ set b 2 q → (p : ℕ)
       → p ≡ o .instruction % 2 ^ 32
+      → (e : List ℕ)
+      → e ≡ set d 3 p
+      → (n : ℕ)
+      → n ≡ o .operand % 2 ^ 32
       → (m : List ℕ)
-      → m ≡ set d 3 p
+      → m ≡ set e 6 n
       → said (o .number) m ≡ saying o l
   unfolding tells
-  told-four a ea b eb q eq d ed p ep m em = rw (em, ed, eb, ea, eq, ep)
+  told-outcome a ea b eb q eq d ed p ep e ee n en m em = rw (em, ee, ed, eb, ea, eq, ep, en)
 
   pub told-five :
       (x n : ℕ) (a : List ℕ) → said n a ≡ saying o l → (y : ℕ) → y ≡ x % 2 ^ 32 → (m : List ℕ) → m ≡ set a 4 y → said n m ≡ saying5 o x l

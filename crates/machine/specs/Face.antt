@@ -1,5 +1,6 @@
 -- The C face: what each function returns, what it leaves in `answer`, and what it leaves of all else that was lent, for any input. Assumes nothing.
--- The number, the count, the prototype and the instruction (or the line) go to answer[0] to answer[3], as 32 bits each; all else in `answer` stays.
+-- The number, the count, the prototype and the instruction (or the line) go to answer[0] to answer[3], the operand that a Lua error names to answer[6], as 32
+-- bits each; all else in `answer` stays.
 -- An `answer` shorter than 8 is 5, of a run 60, and then nothing is touched.
 use mathlib.Core.List.{List}
 use Prim.Native.Nat.{ℕ, _%_, _^_}
@@ -37,7 +38,8 @@ abbrev pub said : ℕ → List ℕ → Said
 said number answer = record { number = number; answer = answer }
 
 unfoldable pub tells : Outcome → List ℕ → List ℕ
-tells o l = set (set (set (set l 0 (o .number)) 1 (o .count)) 2 (o .prototype % 2 ^ 32)) 3 (o .instruction % 2 ^ 32)
+tells o l =
+    set (set (set (set (set l 0 (o .number)) 1 (o .count)) 2 (o .prototype % 2 ^ 32)) 3 (o .instruction % 2 ^ 32)) 6 (o .operand % 2 ^ 32)
 
 -- answer[4] too; answer[5] too
 unfoldable pub tells5 : Outcome → ℕ → List ℕ → List ℕ

@@ -1,6 +1,6 @@
 // The entry points for C, in the static library under their plain names; include/deletion_machine.h says how they are
-// called. Each returns the number, and writes the number, the count, the prototype and the instruction or line to
-// `answer`.
+// called. Each returns the number, and writes the number, the count, the prototype, the instruction or line and the
+// operand to `answer`.
 use crate::Span;
 use step::Outcome;
 use writer::Wrote;
@@ -39,6 +39,7 @@ fn tell(answer: &mut [u32], o: Outcome) -> u32
     put(answer, 1, o.count);
     put(answer, 2, low(o.prototype));
     put(answer, 3, low(o.instruction));
+    put(answer, 6, low(o.operand));
     number
 }
 

@@ -16,7 +16,7 @@ fn write_value(v: Value) {
 fn write_answer(a: Answer) {
     match a {
         Answer::Is(v) => write_value(v),
-        Answer::Raises(e) => {
+        Answer::Raises(e, _) => {
             io::print_decimal(STDOUT_FILENO, constant::error_number(e) as u64);
         }
     }

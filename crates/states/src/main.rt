@@ -2,6 +2,12 @@
 // on standard input. After each start and each run it writes the answer, and then every cell of the state that is
 // another than before. tools/states/cases.py makes the list, and by tools/oracle what must be written.
 //
+// An answer's line begins with (numbers are decimal)
+//   > number prototype instruction                  of a start; > 0 where nothing is refused
+//   ! number count prototype instruction operand    of a run; the operand that is named, or 0
+//   ? number count prototype instruction operand    of how the machine stands
+// and each cell behind it is as in a change below, without its =.
+//
 // A line of the list is one of (numbers are hexadecimal)
 //   # words                a case's name, written as it is; every cell of the storage becomes 0, of the state 5a
 //   a0.. b0.. c0.. e0..    a line of the case's image
@@ -42,6 +48,7 @@ fn print_outcome(o: Outcome) {
     print(o.count as u64);
     print(o.prototype as u64);
     print(o.instruction as u64);
+    print(o.operand as u64);
 }
 
 // A cell that is another than before: its slice, place and content.

@@ -1,6 +1,7 @@
 // Replays strings and operators of document 02, 1/12: what each string reads as goes through the crate `figures`, every
-// operator on every pair of operands, strings among them, through the crate `effects`. Of each part of the list it
-// writes how many it compared and how many differ. tools/figures/cases.py makes the list and what must be written.
+// operator on every pair of operands, strings among them, through the crate `effects`. An error must name the operand
+// that it names by 5/12. Of each part of the list it writes how many it compared and how many differ.
+// tools/figures/cases.py makes the list and what must be written.
 //
 // The list comes in pages of 65,536 bytes, whose last lines are empty so that no line stands on two. A line is one of
 //   # words                   a part's name, written as it is
@@ -9,7 +10,8 @@
 //   v2 0000000000000001       an operand: its kind and its word
 //   s3130                     an operand that is a string, its bytes
 //   o21 1e                    an operator: its operation and its error
-//   ri000000000000000be..     its results for the next left operand and the right ones in order, or for the only ones; `t`, `f` too
+//   ri000000000000000b1..     its results for the next left operand and the right ones in order, or for the only ones: `i`, `n`, `t`, `f`;
+//                             `1` or `2`, the operator's error by the operand that it names; `z`, a zero divisor's
 //   .                         the part's end
 use checker::Binary;
 use checker::Compare;
@@ -37,14 +39,32 @@ const DEST: usize = 200;
 
 // ---- results
 
-// As the list has them: `i` or `n` and the word; `t`; `f`; `e` and the error's number. No list has the tag 0.
+// `i` or `n` and the word; `t`; `f`; `e`, of an operator with the error's number and the operand that it names. No list
+// has the tag 0.
 struct Outcome {
     tag: u8,
     word: u64,
+    operand: u8,
+}
+
+fn unnamed(tag: u8, word: u64) -> Outcome {
+    Outcome {
+        tag,
+        word,
+        operand: 0,
+    }
+}
+
+fn failed(number: u64, operand: u8) -> Outcome {
+    Outcome {
+        tag: b'e',
+        word: number,
+        operand,
+    }
 }
 
 fn none() -> Outcome {
-    Outcome { tag: 0, word: 0 }
+    unnamed(0, 0)
 }
 
 fn wide(b: u8) -> u64 {
@@ -53,10 +73,10 @@ fn wide(b: u8) -> u64 {
 
 fn of_word(kind: u8, word: u64) -> Outcome {
     if kind == 2 {
-        return Outcome { tag: b'i', word };
+        return unnamed(b'i', word);
     }
     if kind == 3 {
-        return Outcome { tag: b'n', word };
+        return unnamed(b'n', word);
     }
     none()
 }
@@ -69,7 +89,7 @@ fn of_figure(f: Figure) -> Outcome {
     match f {
         Figure::Integer(x) => of_value(Value::Integer(x)),
         Figure::Number(x) => of_value(Value::Number(x)),
-        Figure::None => Outcome { tag: b'e', word: 0 },
+        Figure::None => unnamed(b'e', 0),
     }
 }
 
@@ -88,8 +108,8 @@ fn of_set(dest: usize, kind: u8, word: u64, go: Go) -> Outcome {
 // A comparison skips where it holds.
 fn of_go(go: Go) -> Outcome {
     match go {
-        Go::Next => Outcome { tag: b'f', word: 0 },
-        Go::Skip => Outcome { tag: b't', word: 0 },
+        Go::Next => unnamed(b'f', 0),
+        Go::Skip => unnamed(b't', 0),
         Go::To(_) => none(),
     }
 }
@@ -102,26 +122,33 @@ fn of_effect(e: Effect) -> Outcome {
         Effect::Loop(_, _, _, _) => none(),
         Effect::Enter(_, _) => none(),
         Effect::Leave(_, _) => none(),
-        Effect::Fail(n) => Outcome {
-            tag: b'e',
-            word: wide(n),
-        },
+        Effect::Fail(n, operand) => failed(wide(n), operand),
         Effect::Fault => none(),
     }
 }
 
-// The result that stands at a place of a line, where an error has this number. Of 17 digits the last 16 count: those
-// behind the tag.
+// The number of a zero divisor's error, by that of its operator's own.
+fn by_zero(error: u64) -> u64 {
+    match error {
+        34 => 45,
+        35 => 46,
+        _ => 0,
+    }
+}
+
+// The result that stands at a place of a line, where the operator's own error has this number. Of 17 digits the last 16
+// count: those behind the tag.
 fn expected(line: &[u8], at: usize, error: u64) -> Outcome {
     let tag = slices::byte_at(line, 0, at);
     if (tag == b'i') | (tag == b'n') {
-        let word = lists::number_at(line, at, 17);
-        return Outcome { tag, word };
+        return unnamed(tag, lists::number_at(line, at, 17));
     }
-    if tag == b'e' {
-        return Outcome { tag, word: error };
+    match tag {
+        b'1' => failed(error, 1),
+        b'2' => failed(error, 2),
+        b'z' => failed(by_zero(error), 2),
+        _ => unnamed(tag, 0),
     }
-    Outcome { tag, word: 0 }
 }
 
 // ---- counts
@@ -134,7 +161,7 @@ struct Tally {
 fn counted(t: Tally, want: Outcome, got: Outcome) -> Tally {
     let compared = std::num::wrapping_add_u64(t.compared, 1);
     let different = t.different;
-    if (want.tag == got.tag) & (want.word == got.word) {
+    if (want.tag == got.tag) & (want.word == got.word) & (want.operand == got.operand) {
         return Tally {
             compared,
             different,

@@ -136,47 +136,64 @@ fn read_values(
 
 // ---- results
 
-// A result as the lists have it: `i` or `n` and the word; `t`; `f`; `e` and the error's number. No list has the tag 0.
+// A result: `i` or `n` and the word; `t`; `f`; `e`, the error's number and the operand that it names. No list has the
+// tag 0.
 struct Outcome {
     tag: u8,
     word: u64,
+    operand: u8,
+}
+
+fn unnamed(tag: u8, word: u64) -> Outcome {
+    Outcome {
+        tag,
+        word,
+        operand: 0,
+    }
+}
+
+fn failed(number: u64, operand: u8) -> Outcome {
+    Outcome {
+        tag: b'e',
+        word: number,
+        operand,
+    }
 }
 
 fn of_value(v: Value) -> Outcome {
     let kind = constant::kind_of(v);
     let word = constant::word_of(v);
     if kind == 2 {
-        return Outcome { tag: b'i', word };
+        return unnamed(b'i', word);
     }
     if kind == 3 {
-        return Outcome { tag: b'n', word };
+        return unnamed(b'n', word);
     }
-    Outcome { tag: 0, word }
+    unnamed(0, word)
 }
 
 fn of_bool(b: bool) -> Outcome {
     if b {
-        return Outcome { tag: b't', word: 0 };
+        return unnamed(b't', 0);
     }
-    Outcome { tag: b'f', word: 0 }
+    unnamed(b'f', 0)
 }
 
-fn of_error(e: BinaryOperatorError) -> Outcome {
-    let word = wide(constant::error_number(e));
-    Outcome { tag: b'e', word }
+fn of_error(e: BinaryOperatorError, operand: u8) -> Outcome {
+    failed(wide(constant::error_number(e)), operand)
 }
 
 fn of_answer(a: Answer) -> Outcome {
     match a {
         Answer::Is(v) => of_value(v),
-        Answer::Raises(e) => of_error(e),
+        Answer::Raises(e, operand) => of_error(e, operand),
     }
 }
 
 fn of_compared(c: Compared) -> Outcome {
     match c {
         Compared::Decided(b) => of_bool(b),
-        Compared::Raises(e) => of_error(e),
+        Compared::Raises(e, operand) => of_error(e, operand),
     }
 }
 
@@ -201,7 +218,7 @@ fn evaluate(operation: u64, a: Value, b: Value, c: Value, bytes: &[u8], words: &
         0x2a => of_answer(constant::bitwise_xor(b, c)),
         0x2b => of_answer(constant::shift_left(b, c)),
         0x2c => of_answer(constant::shift_right(b, c)),
-        _ => Outcome { tag: 0, word: 0 },
+        _ => unnamed(0, 0),
     }
 }
 
@@ -212,7 +229,7 @@ fn value_at(bytes: &[u8], words: &[u64], i: usize) -> Value {
 // What the machine answers at a place of an operator's results: every choice of operands, the last one changing first.
 fn answer_at(operation: u64, place: usize, n: usize, bytes: &[u8], words: &[u64]) -> Outcome {
     if n == 0 {
-        return Outcome { tag: 0, word: 0 };
+        return unnamed(0, 0);
     }
     let a = value_at(bytes, words, place / n / n % n);
     let b = value_at(bytes, words, place / n % n);
@@ -229,19 +246,28 @@ fn next_tag(input: &mut [u8], at: &mut usize, end: &mut usize) -> u8 {
     b
 }
 
-// The next result of a list.
+// The number of a zero divisor's error, by that of its operator's own.
+fn by_zero(error: u64) -> u64 {
+    match error {
+        34 => 45,
+        35 => 46,
+        _ => 0,
+    }
+}
+
+// The next result of a list, of an operator whose own error has this number: `1` and `2` are that error by the operand
+// that it names, `z` is a zero divisor's.
 fn expected(input: &mut [u8], at: &mut usize, end: &mut usize, error: u64) -> Outcome {
     let tag = next_tag(input, at, end);
     if (tag == b'i') | (tag == b'n') {
-        return Outcome {
-            tag,
-            word: hex(input, at, end, 16),
-        };
+        return unnamed(tag, hex(input, at, end, 16));
     }
-    if tag == b'e' {
-        return Outcome { tag, word: error };
+    match tag {
+        b'1' => failed(error, 1),
+        b'2' => failed(error, 2),
+        b'z' => failed(by_zero(error), 2),
+        _ => unnamed(tag, 0),
     }
-    Outcome { tag, word: 0 }
 }
 
 // ---- the replay
@@ -258,7 +284,7 @@ fn counted(t: Tally, want: Outcome, got: Outcome) -> Tally {
     }
     let compared = std::num::wrapping_add_u64(t.compared, 1);
     let different = t.different;
-    if (want.tag == got.tag) & (want.word == got.word) {
+    if (want.tag == got.tag) & (want.word == got.word) & (want.operand == got.operand) {
         return Tally {
             compared,
             different,

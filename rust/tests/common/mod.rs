@@ -1,7 +1,7 @@
 //! What the tests share: the program of document 01 as a host would write it, images in pieces, and random numbers.
 #![allow(dead_code)]
 
-use deletion_machine::{Answer, Image, Machine, Outcome, StartError, Value};
+use deletion_machine::{Answer, Image, Machine, Operand, Outcome, Place, StartError, Value};
 use std::fmt::Write;
 use std::path::PathBuf;
 
@@ -20,6 +20,14 @@ pub fn text<S: AsRef<str>>(lines: &[S]) -> Vec<u8> {
 /// An image of these lines, read.
 pub fn image<S: AsRef<str>>(lines: &[S]) -> Image {
     Image::read(&text(lines)).expect("the test's image reads")
+}
+
+/// A place.
+pub fn at(prototype: usize, instruction: usize) -> Place {
+    Place {
+        prototype,
+        instruction,
+    }
 }
 
 /// A line of an integer constant.
@@ -49,9 +57,24 @@ pub fn rules() -> Vec<(&'static str, Vec<u8>, String)> {
     .collect()
 }
 
-/// The first line that the program writes: answer, count, prototype, and instruction or line.
-pub fn f0(number: u8, count: u32, prototype: usize, instruction: usize) -> String {
-    format!("f0{number:02x}{count:08x}{prototype:02x}{instruction:04x}\n")
+/// The mark of a machine that ended so.
+pub fn mark(outcome: &Outcome) -> u64 {
+    u64::from(outcome.number()) + 256 * named(outcome.operand())
+}
+
+/// The number of an operand that is named, or 0.
+pub fn named(operand: Option<Operand>) -> u64 {
+    operand.map_or(0, |operand| operand.number().into())
+}
+
+/// The first line that the program writes: answer, count, prototype, instruction or line, and the operand that is named.
+pub fn f0(number: u8, count: u32, place: Place, operand: Option<Operand>) -> String {
+    let Place {
+        prototype,
+        instruction,
+    } = place;
+    let operand = named(operand);
+    format!("f0{number:02x}{count:08x}{prototype:02x}{instruction:04x}{operand:02x}\n")
 }
 
 /// The line that the program writes for a returned value.
@@ -76,14 +99,14 @@ pub fn b0(value: &Value<'_>) -> String {
 
 /// What the program writes for a machine's answer.
 pub fn output(answer: &Answer, machine: &Machine<'_>) -> String {
-    let place = answer.place;
+    let outcome = answer.outcome;
     let mut out = f0(
-        answer.outcome.number(),
+        outcome.number(),
         answer.count,
-        place.prototype,
-        place.instruction,
+        answer.place,
+        outcome.operand(),
     );
-    if answer.outcome == Outcome::Finished {
+    if outcome == Outcome::Finished {
         out.extend(machine.values().iter().map(b0));
     }
     out
@@ -93,14 +116,11 @@ pub fn output(answer: &Answer, machine: &Machine<'_>) -> String {
 pub fn program(text: &[u8]) -> String {
     let image = match Image::read(text) {
         Ok(image) => image,
-        Err(error) => return f0(error.number(), 0, 0, error.line()),
+        Err(error) => return f0(error.number(), 0, at(0, error.line()), None),
     };
     let mut machine = match Machine::start(&image, &[]) {
         Ok(machine) => machine,
-        Err(StartError::Check(error)) => {
-            let place = error.place();
-            return f0(error.number(), 0, place.prototype, place.instruction);
-        }
+        Err(StartError::Check(error)) => return f0(error.number(), 0, error.place(), None),
         Err(StartError::Arguments) => unreachable!("there are none"),
     };
     let answer = machine.run(BUDGET);

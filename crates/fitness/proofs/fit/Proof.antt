@@ -1,8 +1,9 @@
 -- `fitness::fit` meets its contract: each return is the definition's test that fails, or the last one. Assumes nothing.
 use mathlib.Core.Path.{sym, ap, _∙_}
+use borrow.Author.Tests.{le-leb, lt-leb}
 use borrow.Author.Needs.{needs}
-use Rattle.fitness.specs.Fit.{markFits}
-use Rattle.fitness.proofs.Facts.{stack-inside, fit-five, fit-short, fit-six, fit-mark, fit-stack, fit-end, fit-rest}
+use Rattle.fitness.specs.Fit.{markFits, operandFits}
+use Rattle.fitness.proofs.Facts.{stack-inside, fit-five, fit-short, fit-six, fit-mark, fit-operand, fit-stack, fit-end, fit-rest}
 use Rattle.choices.proofs.Choices.{denied, granted}
 use Rattle.fitness.proofs.fit.Statement.{statement}
 use Rattle.fitness.proofs.fit.Tie as tie
@@ -21,19 +22,23 @@ returns-4 c =
     fit-mark _ _ (ap markFits (sym (c .before .before .mark .ensures)) ∙ denied _ _ (c .before .mark-fits .ensures) (c .if4 .taken))
 
 returns-5 : tie.Need-returns-5
-returns-5 c = fit-stack _ _ (denied _ _ (c .before .stack-fits .ensures) (c .if5 .taken))
+returns-5 c = fit-operand _ _ (ap operandFits (sym (c .before .operand .ensures)) ∙ lt-leb _ _ (c .if5 .taken))
 
 returns-6 : tie.Need-returns-6
-returns-6 c = fit-end _ _ (denied _ _ (c .before .end-fits .ensures) (c .if6 .taken))
+returns-6 c = fit-stack _ _ (denied _ _ (c .before .stack-fits .ensures) (c .if6 .taken))
+
+returns-7 : tie.Need-returns-7
+returns-7 c = fit-end _ _ (denied _ _ (c .before .end-fits .ensures) (c .if7 .taken))
 
 values-fit-requires : tie.Need-values-fit-requires
 values-fit-requires c κs =
     let s = c .before .before in
-    stack-inside _ _ _ (granted _ _ (s .before .stack-fits .ensures) (s .if5 .left))
+    stack-inside _ _ _ (granted _ _ (s .before .stack-fits .ensures) (s .if6 .left))
 
-returns-7 : tie.Need-returns-7
-returns-7 c =
-    let s6 = c .before in
+returns-8 : tie.Need-returns-8
+returns-8 c =
+    let s7 = c .before in
+    let s6 = s7 .before .before in
     let s5 = s6 .before .before in
     let s4 = s5 .before .before in
     let s3 = s4 .before .before .before in
@@ -43,7 +48,8 @@ returns-7 c =
     (granted _ _ (s2 .before .is-long-enough2 .ensures) (s2 .if2 .left))
     (granted _ _ (s3 .before .reads-back .ensures) (s3 .if3 .left))
     (ap markFits (sym (s4 .before .before .mark .ensures)) ∙ granted _ _ (s4 .before .mark-fits .ensures) (s4 .if4 .left))
-    (granted _ _ (s5 .before .stack-fits .ensures) (s5 .if5 .left)) (granted _ _ (s6 .before .end-fits .ensures) (s6 .if6 .left)) _
+    (ap operandFits (sym (s5 .before .operand .ensures)) ∙ le-leb _ _ (s5 .if5 .left))
+    (granted _ _ (s6 .before .stack-fits .ensures) (s6 .if6 .left)) (granted _ _ (s7 .before .end-fits .ensures) (s7 .if7 .left)) _
     (c .values-fit .ensures)
 
 pub fit-spec : {M : Type 1} → statement M
@@ -61,4 +67,6 @@ fit-spec =
     (λ c κs. search needs)
     returns-5
     (λ c κs. search needs)
-    returns-6 values-fit-requires returns-7)
+    returns-6
+    (λ c κs. search needs)
+    returns-7 values-fit-requires returns-8)

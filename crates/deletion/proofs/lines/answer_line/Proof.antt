@@ -1,4 +1,4 @@
--- `deletion::lines::answer_line` meets its contract: the nine bytes are the answer's. Assumes nothing.
+-- `deletion::lines::answer_line` meets its contract: the ten bytes are the answer's. Assumes nothing.
 use Rattle.deletion.proofs.Said.{lined-as, answer-said}
 use borrow.Author.Needs.{needs}
 use Rattle.deletion.proofs.lines.answer_line.Statement.{statement}
@@ -6,7 +6,17 @@ use Rattle.deletion.proofs.lines.answer_line.Tie as tie
 
 returns : tie.Need-returns
 returns c =
-    lined-as (answer-said (c .before .before .before .before .before .before .before .before .before .before .before .before .before .before .args .o) _ _ _ _ _ _ _ (c .before .before .before .before .before .before .before .before .before .before .before .low .ensures) (c .before .before .before .before .before .before .before .before .before .before .low2 .ensures) (c .before .before .before .before .before .before .before .before .before .low3 .ensures) (c .before .before .before .before .before .before .before .before .low4 .ensures) (c .before .before .before .before .before .before .before .low5 .ensures) (c .before .before .before .before .before .before .low6 .ensures) (c .before .before .before .before .before .low7 .ensures))
+    let n = c .before .before .before .before .before in
+    let y = n .before in
+    let x = y .before in
+    let q = x .before in
+    let d = q .before in
+    let k = d .before in
+    let b = k .before in
+    let a = b .before in
+    lined-as
+    (answer-said (a .before .before .before .args .o) _ _ _ _ _ _ _ _ (a .low .ensures) (b .low2 .ensures) (k .low3 .ensures) (d .low4 .ensures) (q .low5 .ensures)
+    (x .low6 .ensures) (y .low7 .ensures) (n .low8 .ensures))
     (c .before .before .line .ensures)
 
 pub answer-line-spec : {M : Type 1} → statement M
@@ -15,5 +25,5 @@ answer-line-spec =
     (tie.spec
     (λ c. search needs) (λ c κs. search needs) (λ c κs. search needs) (λ c κs. search needs)
     (λ c κs. search needs) (λ c κs. search needs) (λ c κs. search needs) (λ c κs. search needs)
-    (λ c. search needs) (λ c κs. search needs) (λ c. search needs)
+    (λ c κs. search needs) (λ c. search needs) (λ c κs. search needs) (λ c. search needs)
     returns)
