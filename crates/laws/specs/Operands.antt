@@ -61,15 +61,6 @@ NamedInRuns =
     → raising (o .number) (o .operand)
     ≡ raisedOf (sightOf S ((runOf S b s) .state)) (decodedAt (S .table) (S .code) (o .prototype) (o .instruction))
 
--- the premises can be met: Add of a register that holds nil is 30, naming 1, and leaves a fit state
-abbrev pub addsNil : Storage
-addsNil = readFrom 1 (opens 1 0 ∷ code (packed 33 0 0 0 0) ∷ code (packed 12 0 0 0 0) ∷ ends 1 ∷ [])
-
-abbrev pub NilNamed : Type 0
-NilNamed =
-    ((standingOf addsNil running) .number ≡ 70)
-    × (((runOf addsNil 5 running) .answer ≡ naming (outcome 30 1 0 0) 1) × (fitOf addsNil ((runOf addsNil 5 running) .state) ≡ true))
-
 -- "The mark keeps it, so a failed machine answers it again": with count 0 and all else as it was, on any budget, where the state that is left is fit, as an accepted
 -- image's is (`StaysFit`)
 abbrev pub again : Outcome → Outcome
@@ -80,3 +71,13 @@ AnsweredAgain =
     (S : Storage) (s : State) (b c : ℕ) → (standingOf S s) .number ≡ 70 → LuaError ((runOf S b s) .answer .number)
     → fitOf S ((runOf S b s) .state) ≡ true
     → runOf S c ((runOf S b s) .state) ≡ ended (again ((runOf S b s) .answer)) ((runOf S b s) .state)
+
+-- ---- the premises can be met: Add of a register that holds nil is 30, naming 1, and leaves a fit state
+
+abbrev pub addsNil : Storage
+addsNil = readFrom 1 (opens 1 0 ∷ code (packed 33 0 0 0 0) ∷ code (packed 12 0 0 0 0) ∷ ends 1 ∷ [])
+
+abbrev pub NilNamed : Type 0
+NilNamed =
+    ((standingOf addsNil running) .number ≡ 70)
+    × (((runOf addsNil 5 running) .answer ≡ naming (outcome 30 1 0 0) 1) × (fitOf addsNil ((runOf addsNil 5 running) .state) ≡ true))
