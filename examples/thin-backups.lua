@@ -22,18 +22,17 @@ local function day_of_month(day)
   return in_year - (153 * month + 2) // 5 + 1
 end
 
--- A function can't see those beside it, so it is given the ones that it calls.
-local function kept(weekday, day_of_month, day, age)
+local function kept(day, age)
   if age <= 31 or day_of_month(day) == 1 then return true end
   return age <= 365 and weekday(day) == 0
 end
 
 -- Of 64 chunks from one on: those to release, and how many are kept.
-local function thinned(kept, weekday, day_of_month, today, from)
+local function thinned(from)
   local release, count = 0, 0
   for i = 0, 63 do
     local age = from + i
-    if kept(weekday, day_of_month, today - age, age) then
+    if kept(today - age, age) then
       count = count + 1
     else
       release = release | 1 << i
@@ -42,11 +41,11 @@ local function thinned(kept, weekday, day_of_month, today, from)
   return release, count
 end
 
-local a, in_a = thinned(kept, weekday, day_of_month, today, 0)
-local b, in_b = thinned(kept, weekday, day_of_month, today, 64)
-local c, in_c = thinned(kept, weekday, day_of_month, today, 128)
-local d, in_d = thinned(kept, weekday, day_of_month, today, 192)
-local e, in_e = thinned(kept, weekday, day_of_month, today, 256)
-local f, in_f = thinned(kept, weekday, day_of_month, today, 320)
-local g, in_g = thinned(kept, weekday, day_of_month, today, 384)
+local a, in_a = thinned(0)
+local b, in_b = thinned(64)
+local c, in_c = thinned(128)
+local d, in_d = thinned(192)
+local e, in_e = thinned(256)
+local f, in_f = thinned(320)
+local g, in_g = thinned(384)
 return in_a + in_b + in_c + in_d + in_e + in_f + in_g, a, b, c, d, e, f, g

@@ -3,6 +3,8 @@
  *     tools/staticlib x86_64      proves and makes target/staticlib/libmachine.a, for x86-64 Linux
  *     cc host.c libmachine.a -lm  links it
  *
+ * Stored states and texts, the last section, are C: deletion_machine.c, beside this file, is compiled with host.c.
+ *
  * What is lent. A slice is a pointer and a length in elements. All memory is the host's: nothing is allocated, nothing is
  * kept between two calls, and no call waits. STORAGE is where an image is read to, STATE is a machine; both are plain data,
  * may be copied and stored, and hold no pointers. A slice may be longer than its size below; what lies beyond what a function
@@ -27,7 +29,8 @@
  * said here of memory, but numbers may come out otherwise.
  *
  * Contents don't matter for safety: whatever bytes the slices hold, each call ends with one of the numbers. What each
- * function answers and leaves, for any input, is proved; crates/machine/specs/Face.antt has the definitions. */
+ * function answers and leaves, for any input, is proved; crates/machine/specs/Face.antt has the definitions. (Not of the last
+ * section, which is tested.) */
 #ifndef DELETION_MACHINE_H
 #define DELETION_MACHINE_H
 
@@ -37,6 +40,13 @@
 #ifdef __cplusplus
 extern "C" {
 #endif
+
+/* ---- the version ---- */
+
+/* 10000 * major + 100 * minor + patch: 200 is 0.2.0. This header's, and the linked library's: a host compares the two, once, before
+ * anything else, and stops where they differ. */
+#define DM_VERSION 200
+uint32_t dm_version(void);
 
 /* ---- sizes, in elements: how long the slices have to be ---- */
 
@@ -149,6 +159,10 @@ typedef struct dm_state {
     (s)->table, DM_TABLE, (s)->code, DM_CODE, (s)->const_kinds, DM_CONSTANTS, (s)->const_words, DM_CONSTANTS, (s)->texts, DM_TEXTS
 #define DM_STATE(s) (s)->frames, DM_FRAMES, (s)->kinds, DM_REGISTERS, (s)->words, DM_REGISTERS
 
+/* How many parameters the rule has that was read to `table`: those of prototype 0; 0 where there is none. table[0] is the number of
+ * prototypes; then come, for each, its registers, its parameters, its first constant and its first instruction. */
+#define DM_PARAMETERS(table) ((table)[0] == 0 ? 0 : (table)[2])
+
 /* ---- an image ---- */
 
 /* Reads an image into STORAGE. 0; 5; 3 for the image's length; 1 to 4 at a line. A refusal leaves STORAGE untouched. */
@@ -175,8 +189,9 @@ uint32_t dm_check(const uint64_t *table, size_t table_length, const uint64_t *co
 /* ---- a machine ---- */
 
 /* Starts a machine on prototype 0, with the arguments arg_kinds[i], arg_words[i]; where one of the two is missing it is no
- * value. It checks the image itself. 0; 5; 6; 10 to 15; 20. Only the window of prototype 0 and its activation are
- * written; a refusal leaves STATE untouched. */
+ * value. Parameters without an argument are nil, and arguments without a parameter (DM_PARAMETERS) are dropped, without a word. It
+ * checks the image itself. 0; 5; 6; 10 to 15; 20. Only the window of prototype 0 and its activation are written; a refusal leaves
+ * STATE untouched. */
 uint32_t dm_start(const uint64_t *table, size_t table_length, const uint64_t *code, size_t code_length,
                   const uint8_t *const_kinds, size_t const_kinds_length, const uint64_t *const_words, size_t const_words_length,
                   const uint8_t *texts, size_t texts_length,
@@ -221,6 +236,50 @@ uint32_t dm_text(const uint64_t *table, size_t table_length, const uint64_t *cod
                  const uint8_t *texts, size_t texts_length,
                  uint64_t word,
                  uint32_t *answer, size_t answer_length);
+
+/* ---- stored states, and texts: compile deletion_machine.c beside the host; tested, not proved ---- */
+
+/* A state that is put away belongs to its rule. dm_run goes on with any state that is fit for the image, also with another rule's or
+ * with one that was damaged, and gives a wrong list; what is stored as here is known by its image's digest and by a checksum. The
+ * Rust package (State::to_bytes) writes and reads the same bytes. Numbers have their lowest byte first:
+ *
+ *     0 to 7      "DMSTATE" and LF
+ *     8 to 11     the version of this layout: 1
+ *     12 to 15    how many bytes there are in all: DM_STATE_BYTES
+ *     16 to 47    the SHA-256 of the image's bytes
+ *     48 to 59    DM_FRAMES, DM_REGISTERS and DM_REGISTERS, 4 bytes each: how many frames, kinds and words follow
+ *     60 to 63    0
+ *     64 to ..    the frames, 8 bytes each; the kinds, a byte each; the words, 8 bytes each
+ *     the last 32 the SHA-256 of all bytes before them
+ *
+ * The checksum tells damage, not intent: who can write the file can write another state. */
+#define DM_STATE_BYTES (64 + 8 * DM_FRAMES + 9 * DM_REGISTERS + 32)
+
+/* The digest of an image's bytes, as sha256sum prints it for the image's file; of those that dm_read took, or that dm_write wrote. */
+void dm_image_digest(const uint8_t *image, size_t image_length, uint8_t digest[32]);
+
+/* The state in bytes, of a machine on the image with this digest. */
+void dm_state_to_bytes(const uint8_t digest[32], const dm_state *state, uint8_t bytes[DM_STATE_BYTES]);
+
+/* What dm_state_from_bytes answers: the first of these that holds. */
+enum dm_stored {
+    DM_STORED_GOOD = 0,        /* `state` is the one that was put away, on this image */
+    DM_STORED_NOT_A_STATE = 1, /* other bytes stand at the beginning */
+    DM_STORED_VERSION = 2,     /* another version of the layout */
+    DM_STORED_LENGTH = 3,      /* cut off, or longer than it says */
+    DM_STORED_DAMAGED = 4,     /* the checksum is not that of the bytes, or their lengths don't add up */
+    DM_STORED_OTHER_RULE = 5,  /* of a machine on another image */
+    DM_STORED_SIZES = 6        /* of other sizes than a machine's */
+};
+
+/* The state in the bytes, which are `length` many, for the image with this digest. A refusal leaves `state` untouched. A state that is
+ * taken is whole and of this rule; dm_run goes on with it. */
+enum dm_stored dm_state_from_bytes(const uint8_t digest[32], const uint8_t *bytes, size_t length, dm_state *state);
+
+/* What a number (enum dm_number) says, in words; of any other, that it isn't known. Of 20 it is what dm_start refuses. The texts are
+ * in deletion_messages.h, a line each; they name no place and no operand, which are in `answer`. */
+const char *dm_message(uint32_t number);
+const char *dm_stored_message(enum dm_stored stored);
 
 #ifdef __cplusplus
 }

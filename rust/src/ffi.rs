@@ -8,15 +8,10 @@
 //! the length says, which nobody else writes during the call, nor reads where the function writes. Here all of them come
 //! from references that live as long as the call does.
 
-use crate::machine::State;
+use crate::state::State;
+use crate::storage::Storage;
 
-/// The published sizes of what is lent, in elements.
-const TABLE: usize = 133;
-const CODE: usize = 5_041;
-const CONSTANTS: usize = 8_448;
-const TEXTS: usize = 32_768;
-const FRAMES: usize = 34;
-const REGISTERS: usize = 2_308;
+/// The published size of the answer, in elements. Those of what else is lent are with it, in `storage.rs` and `state.rs`.
 const ANSWER: usize = 8;
 
 /// What `answer` holds before a call; no function answers it.
@@ -156,6 +151,8 @@ mod c {
             answer: *mut u32,
             answer_length: usize,
         ) -> u32;
+
+        pub fn dm_version() -> u32;
     }
 }
 
@@ -176,40 +173,6 @@ macro_rules! lend {
             $($rest),*
         )
     };
-}
-
-/// What a read image fills.
-#[derive(Clone, PartialEq, Eq)]
-pub(crate) struct Storage {
-    pub table: Vec<u64>,
-    pub code: Vec<u64>,
-    pub const_kinds: Vec<u8>,
-    pub const_words: Vec<u64>,
-    pub texts: Vec<u8>,
-}
-
-impl Storage {
-    /// Of the published sizes, all zero.
-    pub fn empty() -> Storage {
-        Storage {
-            table: vec![0; TABLE],
-            code: vec![0; CODE],
-            const_kinds: vec![0; CONSTANTS],
-            const_words: vec![0; CONSTANTS],
-            texts: vec![0; TEXTS],
-        }
-    }
-}
-
-impl State {
-    /// Of the published sizes, all zero.
-    pub(crate) fn empty() -> State {
-        State {
-            frames: vec![0; FRAMES],
-            kinds: vec![0; REGISTERS],
-            words: vec![0; REGISTERS],
-        }
-    }
 }
 
 /// What a function answers. `first` and `second` are what it tells besides; of one that tells nothing they mean nothing.
@@ -369,10 +332,18 @@ pub(crate) fn text(storage: &Storage, word: u64) -> Told {
     told(number, answer)
 }
 
+/// The library's version: 10000 times its major number, 100 times its minor one, and its patch.
+pub(crate) fn version() -> u32 {
+    // SAFETY: it takes nothing.
+    unsafe { c::dm_version() }
+}
+
 /// The refusals that the package's own types rule out, and the sizes.
 #[cfg(test)]
 mod tests {
     use super::*;
+    use crate::state::{FRAMES, REGISTERS};
+    use crate::storage::{CODE, CONSTANTS, TABLE, TEXTS};
 
     const IMAGE: &[u8] = b"a00100\nb00461\nc00100000000\nc00c00000100\ne001\n";
 

@@ -1,4 +1,6 @@
-use crate::ffi::{self, Storage, Told};
+use crate::digest::sha256;
+use crate::ffi::{self, Told};
+use crate::storage::Storage;
 use std::error::Error;
 use std::fmt;
 
@@ -57,6 +59,31 @@ impl Image {
         out
     }
 
+    /// The SHA-256 of the image's bytes, by which a stored state knows its rule: what `sha256sum` prints for the image's file.
+    ///
+    /// ```
+    /// # use deletion_machine::Image;
+    /// let image = Image::read(b"a00100\nc00c00000000\ne001\n")?;
+    /// assert_eq!(image.digest()[..4], [0x4c, 0x38, 0x2c, 0xf6]);
+    /// # Ok::<(), deletion_machine::ReadError>(())
+    /// ```
+    pub fn digest(&self) -> [u8; 32] {
+        sha256(&self.write())
+    }
+
+    /// How many parameters the rule has, those of its first prototype; 0 where it has no prototype. More arguments than these
+    /// are not for this rule: [`Machine::start`](crate::Machine::start) refuses them.
+    ///
+    /// ```
+    /// # use deletion_machine::Image;
+    /// let image = Image::read(b"a00302\nc00c00000100\ne001\n")?; // 3 registers, 2 of them parameters
+    /// assert_eq!(image.parameters(), 2);
+    /// # Ok::<(), deletion_machine::ReadError>(())
+    /// ```
+    pub fn parameters(&self) -> usize {
+        self.storage.parameters()
+    }
+
     /// Whether a machine can carry the image out; if not, its first bad instruction.
     ///
     /// ```
@@ -87,6 +114,13 @@ impl Image {
             crate::unknown(told.number);
         }
         &self.storage.texts[told.first..][..told.second]
+    }
+}
+
+/// So that a [`Machine`](crate::Machine) is started on an image or on what leads to one, as `&Image` and `Arc<Image>` do.
+impl AsRef<Image> for Image {
+    fn as_ref(&self) -> &Image {
+        self
     }
 }
 
@@ -126,6 +160,7 @@ impl fmt::Display for Place {
 
 /// Why bytes are no image. Lines count from 0, and each is judged by 1, then 2, then 3.
 #[derive(Clone, Copy, Debug, PartialEq, Eq, Hash)]
+#[non_exhaustive]
 pub enum ReadError {
     /// 1: the line is empty, is not pairs of lowercase hexadecimal digits, or has no LF.
     NotHex {
@@ -178,6 +213,9 @@ impl ReadError {
     }
 }
 
+/// What 3 says, of bytes and of lines.
+const TOO_MANY: &str = "too many: an image has at most 65536 bytes and 32 prototypes, a prototype at most 256 constants and 4096 instructions";
+
 impl fmt::Display for ReadError {
     fn fmt(&self, f: &mut fmt::Formatter<'_>) -> fmt::Result {
         match self {
@@ -189,14 +227,8 @@ impl fmt::Display for ReadError {
                 f,
                 "line {line} (from 0): no frame that can stand here: unknown kind, wrong length, tag, order or field"
             ),
-            ReadError::TooLong { bytes } => write!(
-                f,
-                "the image has {bytes} bytes, and {IMAGE_BYTES} are the most"
-            ),
-            ReadError::TooMany { line } => write!(
-                f,
-                "line {line} (from 0): one too many: an image has at most 32 prototypes, a prototype 256 constants and 4096 instructions"
-            ),
+            ReadError::TooLong { bytes } => write!(f, "{bytes} bytes: {TOO_MANY}"),
+            ReadError::TooMany { line } => write!(f, "line {line} (from 0): {TOO_MANY}"),
             ReadError::NoEnd { line } => write!(
                 f,
                 "after {line} lines: no e0 line at the end, or a byte after it"
@@ -210,6 +242,7 @@ impl Error for ReadError {}
 /// Why a machine can't carry an image out: the first bad instruction of the first bad prototype, and the lowest number
 /// there.
 #[derive(Clone, Copy, Debug, PartialEq, Eq, Hash)]
+#[non_exhaustive]
 pub enum CheckError {
     /// 10: an operation that the machine doesn't have, a count of 255 in Call or Return, or a Jump that closes.
     Operation(Place),

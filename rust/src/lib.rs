@@ -2,7 +2,8 @@
 //!
 //! The machine itself is a static library, proved to do what its definitions say (`docs/PROMISES.md` of the
 //! repository); this package is a thin, safe face of it. An [`Image`] is what a rule was compiled to. A [`Machine`]
-//! runs one, a budget of instructions at a time, and can be paused, put away and resumed between any two of them.
+//! runs one, a budget of instructions at a time, and can be paused, put away ([`Machine::to_bytes`]) and resumed
+//! ([`Machine::from_bytes`]) between any two of them.
 //!
 //! ```
 //! use deletion_machine::{Image, Machine, Outcome, Value};
@@ -62,17 +63,36 @@
 #![deny(unsafe_code)]
 #![warn(missing_docs)]
 
+mod digest;
 #[allow(unsafe_code)]
 mod ffi;
 mod image;
 mod machine;
+mod state;
+mod storage;
+mod stored;
 mod value;
 
 pub use image::{CheckError, Image, Place, ReadError, IMAGE_BYTES};
 pub use machine::{
-    Answer, LuaError, LuaErrorKind, Machine, Operand, Outcome, StartError, State, ARGUMENTS,
+    Answer, LuaError, LuaErrorKind, Machine, Operand, Outcome, StartError, ARGUMENTS,
 };
+pub use state::State;
+pub use stored::{StateError, STATE_BYTES};
 pub use value::Value;
+
+/// The version of the static library that is linked: major, minor and patch. This package was written for the one with its
+/// own version.
+///
+/// ```
+/// let (major, minor, patch) = deletion_machine::library_version();
+/// println!("on the deletion machine {major}.{minor}.{patch}");
+/// # assert_eq!(format!("{major}.{minor}.{patch}"), "0.2.0");
+/// ```
+pub fn library_version() -> (u32, u32, u32) {
+    let version = ffi::version();
+    (version / 10_000, version / 100 % 100, version % 100)
+}
 
 /// Has the tests try the example there.
 #[cfg(doctest)]

@@ -1,5 +1,7 @@
 use crate::ffi::{self, Told};
 use crate::image::{CheckError, Image, Place};
+use crate::state::State;
+use crate::stored::StateError;
 use crate::value::Value;
 use std::error::Error;
 use std::fmt;
@@ -7,16 +9,58 @@ use std::fmt;
 /// The most arguments that a machine is started with.
 pub const ARGUMENTS: usize = 8;
 
-/// A machine that runs an image. It owns its state, about 20 kilobytes, and borrows the image.
-#[derive(Clone, Debug)]
-pub struct Machine<'image> {
-    image: &'image Image,
+/// A machine that runs an image. It owns its state, about 20 kilobytes, and holds the image as it was given: `&Image`, which
+/// it borrows; `Arc<Image>`, which it shares; or an `Image` of its own.
+///
+/// One that borrows costs nothing and is the shortest to write:
+///
+/// ```
+/// # use deletion_machine::{Image, Machine, Value};
+/// # let text = b"a00100\nb0020000000000000007\nc00100000000\nc00c00000100\ne001\n";
+/// let image = Image::read(text)?;
+/// let mut machine = Machine::start(&image, &[])?;
+/// machine.run(1_000);
+/// assert_eq!(machine.values(), [Value::Integer(7)]);
+/// # Ok::<(), Box<dyn std::error::Error>>(())
+/// ```
+///
+/// One that shares its image can be kept and sent, and needs nobody to keep the image for it:
+///
+/// ```
+/// use deletion_machine::{Image, Machine, Outcome};
+/// use std::sync::Arc;
+///
+/// struct Job {
+///     name: String,
+///     machine: Machine<Arc<Image>>,
+/// }
+///
+/// # let text = b"a00100\nb0020000000000000007\nc00100000000\nc00c00000100\ne001\n";
+/// let image = Arc::new(Image::read(text)?);
+/// let mut jobs = Vec::new();
+/// for name in ["invoices", "letters"] {
+///     let machine = Machine::start(Arc::clone(&image), &[])?;
+///     jobs.push(Job { name: name.to_string(), machine });
+/// }
+/// let threads = jobs.into_iter().map(|mut job| {
+///     std::thread::spawn(move || match job.machine.run(1_000).outcome {
+///         Outcome::Finished => println!("{}: {:?}", job.name, job.machine.values()),
+///         outcome => println!("{}: {outcome}", job.name),
+///     })
+/// });
+/// threads.for_each(|thread| thread.join().unwrap());
+/// # Ok::<(), Box<dyn std::error::Error>>(())
+/// ```
+#[derive(Clone)]
+pub struct Machine<I> {
+    image: I,
     state: State,
 }
 
-impl<'image> Machine<'image> {
+impl<I: AsRef<Image>> Machine<I> {
     /// Starts a machine at the image's first prototype, with arguments for its parameters: at most [`ARGUMENTS`], each
-    /// nil, a boolean, an integer or a number. Missing ones are nil, surplus ones drop. The image is checked first.
+    /// nil, a boolean, an integer or a number. Missing ones are nil. More than the rule has parameters are refused: they were
+    /// meant for another rule, or for a newer one. The image is checked first.
     ///
     /// ```
     /// use deletion_machine::{Image, Machine, StartError, Value};
@@ -25,16 +69,35 @@ impl<'image> Machine<'image> {
     /// assert!(Machine::start(&image, &[Value::Integer(10)]).is_ok());
     /// let error = Machine::start(&image, &[Value::String(b"ten")]).unwrap_err();
     /// assert_eq!(error, StartError::Arguments);
+    /// let error = Machine::start(&image, &[Value::Integer(10), true.into()]).unwrap_err();
+    /// assert_eq!(error, StartError::Surplus { given: 2, parameters: 1 });
     /// # Ok::<(), deletion_machine::ReadError>(())
     /// ```
-    pub fn start(
-        image: &'image Image,
-        arguments: &[Value<'_>],
-    ) -> Result<Machine<'image>, StartError> {
+    pub fn start(image: I, arguments: &[Value<'_>]) -> Result<Machine<I>, StartError> {
+        let machine = Machine::start_dropping(image, arguments)?;
+        let (given, parameters) = (arguments.len(), machine.image.as_ref().parameters());
+        if given > parameters {
+            return Err(StartError::Surplus { given, parameters });
+        }
+        Ok(machine)
+    }
+
+    /// The same, but arguments for which the rule has no parameter are dropped: what the machine itself does. For a host that
+    /// hands the same arguments to all its rules, whichever of them a rule takes.
+    ///
+    /// ```
+    /// # use deletion_machine::{Image, Machine, Value};
+    /// let image = Image::read(b"a00101\nc00c00000100\ne001\n")?; // returns its argument
+    /// let mut machine = Machine::start_dropping(&image, &[Value::Integer(10), true.into()])?;
+    /// machine.run(1_000);
+    /// assert_eq!(machine.values(), [Value::Integer(10)]);
+    /// # Ok::<(), Box<dyn std::error::Error>>(())
+    /// ```
+    pub fn start_dropping(image: I, arguments: &[Value<'_>]) -> Result<Machine<I>, StartError> {
         let (kinds, words): (Vec<u8>, Vec<u64>) =
             arguments.iter().map(|value| value.as_argument()).unzip();
         let mut state = State::empty();
-        let told = ffi::start(image.storage(), &mut state, &kinds, &words);
+        let told = ffi::start(image.as_ref().storage(), &mut state, &kinds, &words);
         match told.number {
             0 => Ok(Machine { image, state }),
             20 => Err(StartError::Arguments),
@@ -45,8 +108,8 @@ impl<'image> Machine<'image> {
         }
     }
 
-    /// Goes on with a machine that was put away. Any state is taken: where it is no state of a machine on this image,
-    /// each run answers [`Outcome::Fault`] and changes nothing.
+    /// Goes on with a machine that was put away by [`Machine::to_bytes`], on the same rule. Bytes that are damaged, or of a
+    /// machine on another rule, are refused.
     ///
     /// ```
     /// use deletion_machine::{Image, Machine, Outcome};
@@ -54,14 +117,51 @@ impl<'image> Machine<'image> {
     /// let image = Image::read(b"a00100\nc00300000100\nc00c00000000\ne001\n")?;
     /// let mut machine = Machine::start(&image, &[])?;
     /// assert_eq!(machine.run(1).outcome, Outcome::Paused);
-    /// let state = machine.into_state();
+    /// let bytes = machine.to_bytes();
     ///
     /// // later, elsewhere
-    /// let mut machine = Machine::resume(&image, state);
+    /// let mut machine = Machine::from_bytes(&image, &bytes)?;
     /// assert_eq!(machine.run(1).outcome, Outcome::Finished);
     /// # Ok::<(), Box<dyn std::error::Error>>(())
     /// ```
-    pub fn resume(image: &'image Image, state: State) -> Machine<'image> {
+    pub fn from_bytes(image: I, bytes: &[u8]) -> Result<Machine<I>, StateError> {
+        let state = State::from_bytes(image.as_ref(), bytes)?;
+        Ok(Machine { image, state })
+    }
+
+    /// Its state in bytes, to put away; they belong to its rule. [`State::to_bytes`] says what they are.
+    pub fn to_bytes(&self) -> Vec<u8> {
+        self.state.to_bytes(self.image.as_ref())
+    }
+
+    /// Goes on with a state as it is. Any state is taken: what came from elsewhere had better come as bytes, by
+    /// [`Machine::from_bytes`].
+    ///
+    /// What is noticed: a state that can be none of a machine on this image, as one of an instruction or a register that isn't
+    /// there. Each run answers [`Outcome::Fault`] then, and changes nothing.
+    ///
+    /// What is not: a state of another rule that fits this one too. The machine goes on with what it has in its registers, and
+    /// gives a wrong list: a rule of seven years that is paused, and resumed on the same rule with 70, has worked out its seven
+    /// years and releases what they say. And damage that leaves a state fit: another number in a register, another instruction.
+    ///
+    /// ```
+    /// use deletion_machine::{Image, Machine, Outcome, Value};
+    ///
+    /// // loads the years, and returns them
+    /// let seven = Image::read(b"a00100\nb0020000000000000007\nc00100000000\nc00c00000100\ne001\n")?;
+    /// let seventy = Image::read(b"a00100\nb0020000000000000046\nc00100000000\nc00c00000100\ne001\n")?;
+    /// let mut machine = Machine::start(&seven, &[])?;
+    /// machine.run(1);
+    /// let bytes = machine.to_bytes();
+    /// let state = machine.into_state();
+    ///
+    /// let mut machine = Machine::resume(&seventy, state);
+    /// assert_eq!(machine.run(1).outcome, Outcome::Finished);
+    /// assert_eq!(machine.values(), [Value::Integer(7)]); // not noticed
+    /// assert!(Machine::from_bytes(&seventy, &bytes).is_err()); // noticed
+    /// # Ok::<(), Box<dyn std::error::Error>>(())
+    /// ```
+    pub fn resume(image: I, state: State) -> Machine<I> {
         Machine { image, state }
     }
 
@@ -71,40 +171,23 @@ impl<'image> Machine<'image> {
     /// Parts don't matter: of a machine that was started (its image was accepted), a run of `a`, then one of `b`, leave the
     /// state and give the outcome and the place of one run of `a + b`, and their counts add up to its count.
     pub fn run(&mut self, budget: u32) -> Answer {
-        Answer::told(&ffi::run(self.image.storage(), &mut self.state, budget))
+        let storage = self.image.as_ref().storage();
+        Answer::told(&ffi::run(storage, &mut self.state, budget))
     }
 
     /// What a run on budget 0 would answer.
     pub fn standing(&self) -> Answer {
-        Answer::told(&ffi::returned(self.image.storage(), &self.state))
+        Answer::told(&ffi::returned(self.image.as_ref().storage(), &self.state))
     }
 
-    /// What a finished machine returned; nothing of any other.
-    pub fn values(&self) -> Vec<Value<'image>> {
-        let told = ffi::returned(self.image.storage(), &self.state);
-        let registers = told.first..told.first + told.second;
-        registers.map(|register| self.value(register)).collect()
+    /// What a finished machine returned; nothing of any other. The strings among the values lie in the image.
+    pub fn values(&self) -> Vec<Value<'_>> {
+        self.state.values(self.image.as_ref())
     }
 
-    /// What a live register of the outermost activation holds.
-    fn value(&self, register: usize) -> Value<'image> {
-        let word = self.state.words[register];
-        match self.state.kinds[register] {
-            0 => Value::Nil,
-            1 => Value::Boolean(word != 0),
-            2 => Value::Integer(word as i64),
-            3 => Value::Number(f64::from_bits(word)),
-            4 => Value::String(self.image.string(word)),
-            5 => Value::Function(word as usize),
-            kind => {
-                unreachable!("a live register of a fit state has a kind up to 5, and not {kind}")
-            }
-        }
-    }
-
-    /// The image that it runs.
-    pub fn image(&self) -> &'image Image {
-        self.image
+    /// The image that it runs, as it was given.
+    pub fn image(&self) -> &I {
+        &self.image
     }
 
     /// Its state, to look at or to put away.
@@ -118,18 +201,40 @@ impl<'image> Machine<'image> {
     }
 }
 
-/// A machine's state, to be put away and resumed ([`Machine::resume`]). It holds no pointer, so it may be stored and
-/// sent. Nothing is assumed of one that comes back.
-#[derive(Clone, Debug, PartialEq, Eq)]
-pub struct State {
-    /// The mark (70 while the machine runs, 0 when it is finished, else its Lua error's number and 256 times the operand that
-    /// it names), the number of activations, and for each its prototype and instruction.
-    pub frames: Vec<u64>,
-    /// The kind of each register's value: 0 nil, 1 boolean, 2 integer, 3 number, 4 string, 5 function.
-    pub kinds: Vec<u8>,
-    /// The word of each register's value: its 64 bits; of a string the number of its constant in the image, of a
-    /// function its prototype.
-    pub words: Vec<u64>,
+/// A line: where the machine stands, and how.
+impl<I: AsRef<Image>> fmt::Debug for Machine<I> {
+    fn fmt(&self, f: &mut fmt::Formatter<'_>) -> fmt::Result {
+        let Answer { outcome, place, .. } = self.standing();
+        write!(f, "Machine {{ {place}: {outcome} }}")
+    }
+}
+
+impl State {
+    /// What a finished machine in this state on the image returned; nothing of any other. [`Machine::values`] are the same,
+    /// but these live as long as the image, whatever becomes of the machine.
+    pub fn values<'image>(&self, image: &'image Image) -> Vec<Value<'image>> {
+        let told = ffi::returned(image.storage(), self);
+        let registers = told.first..told.first + told.second;
+        registers
+            .map(|register| self.value(image, register))
+            .collect()
+    }
+
+    /// What a live register of the outermost activation holds.
+    fn value<'image>(&self, image: &'image Image, register: usize) -> Value<'image> {
+        let word = self.words[register];
+        match self.kinds[register] {
+            0 => Value::Nil,
+            1 => Value::Boolean(word != 0),
+            2 => Value::Integer(word as i64),
+            3 => Value::Number(f64::from_bits(word)),
+            4 => Value::String(image.string(word)),
+            5 => Value::Function(word as usize),
+            kind => {
+                unreachable!("a live register of a fit state has a kind up to 5, and not {kind}")
+            }
+        }
+    }
 }
 
 /// What a run answers.
@@ -178,6 +283,7 @@ impl fmt::Display for Answer {
 
 /// How a run ended.
 #[derive(Clone, Copy, Debug, PartialEq, Eq, Hash)]
+#[non_exhaustive]
 pub enum Outcome {
     /// 0: the outermost Return is done; [`Machine::values`] has what it returned.
     Finished,
@@ -223,19 +329,30 @@ impl fmt::Display for Outcome {
 
 /// Why a machine isn't started.
 #[derive(Clone, Copy, Debug, PartialEq, Eq, Hash)]
+#[non_exhaustive]
 pub enum StartError {
     /// 10 to 15: the image can't be carried out.
     Check(CheckError),
     /// 20: more than [`ARGUMENTS`] arguments, or one that is not nil, a boolean, an integer or a number.
     Arguments,
+    /// More arguments than the rule has parameters. The machine itself would drop the last ones, and so would
+    /// [`Machine::start_dropping`]; this refusal is the package's own, and comes after the machine's.
+    Surplus {
+        /// How many arguments there are.
+        given: usize,
+        /// How many parameters the rule has.
+        parameters: usize,
+    },
 }
 
 impl StartError {
-    /// The number that the machine answers: 10 to 15, or 20.
-    pub fn number(&self) -> u8 {
+    /// The number that the machine answers: 10 to 15, or 20. For [`StartError::Surplus`], which the machine doesn't refuse, it
+    /// has none.
+    pub fn number(&self) -> Option<u8> {
         match self {
-            StartError::Check(error) => error.number(),
-            StartError::Arguments => 20,
+            StartError::Check(error) => Some(error.number()),
+            StartError::Arguments => Some(20),
+            StartError::Surplus { .. } => None,
         }
     }
 }
@@ -248,6 +365,24 @@ impl fmt::Display for StartError {
                 f,
                 "more than {ARGUMENTS} arguments, or one that is not nil, a boolean, an integer or a number"
             ),
+            StartError::Surplus { given, parameters } => {
+                match given {
+                    1 => write!(f, "1 argument is given")?,
+                    _ => write!(f, "{given} arguments are given")?,
+                }
+                match parameters {
+                    0 => write!(f, ", and the rule has no parameters")?,
+                    1 => write!(f, ", and the rule has 1 parameter")?,
+                    _ => write!(f, ", and the rule has {parameters} parameters")?,
+                }
+                let surplus = match (parameters, given.saturating_sub(*parameters)) {
+                    (0, 1) => "it",
+                    (0, _) => "they",
+                    (_, 1) => "the last",
+                    (_, _) => "the others",
+                };
+                write!(f, ": {surplus} would be dropped")
+            }
         }
     }
 }
@@ -257,7 +392,7 @@ impl Error for StartError {
         match self {
             // its text is this one's
             StartError::Check(error) => error.source(),
-            StartError::Arguments => None,
+            StartError::Arguments | StartError::Surplus { .. } => None,
         }
     }
 }
@@ -310,6 +445,7 @@ impl LuaError {
 /// An operand, as an error names it. Left and right are the instruction's: `a > b` in Lua's code is `b < a`.
 #[derive(Clone, Copy, Debug, PartialEq, Eq, Hash)]
 #[repr(u8)]
+#[non_exhaustive]
 pub enum Operand {
     /// 1: the left or only one; the index of a numeric `for`.
     First = 1,
@@ -344,6 +480,7 @@ impl Operand {
 /// is an integer, a number or a string, else the left one.
 #[derive(Clone, Copy, Debug, PartialEq, Eq, Hash)]
 #[repr(u8)]
+#[non_exhaustive]
 pub enum LuaErrorKind {
     /// 30: `+`, or the controls of a numeric `for`.
     Add = 30,
@@ -389,7 +526,7 @@ pub enum LuaErrorKind {
 
 impl LuaErrorKind {
     /// Every one of them, in the order of the numbers.
-    pub const ALL: [LuaErrorKind; 20] = [
+    pub const ALL: &'static [LuaErrorKind] = &[
         LuaErrorKind::Add,
         LuaErrorKind::Subtract,
         LuaErrorKind::Multiply,
@@ -414,7 +551,8 @@ impl LuaErrorKind {
 
     fn told(number: u32) -> Option<LuaErrorKind> {
         Self::ALL
-            .into_iter()
+            .iter()
+            .copied()
             .find(|kind| u32::from(kind.number()) == number)
     }
 

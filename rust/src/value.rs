@@ -4,6 +4,7 @@ use std::fmt;
 ///
 /// Equal as in Rust: two [`Value::Number`]s as `f64`s are, an integer and a number never.
 #[derive(Clone, Copy, Debug, PartialEq)]
+#[non_exhaustive]
 pub enum Value<'image> {
     /// `nil`
     Nil,

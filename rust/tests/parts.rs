@@ -133,7 +133,7 @@ fn an_end_is_answered_again() {
         let mut machine = Machine::start(&image, &[]).unwrap();
         let mut first = machine.run(BUDGET);
         let state = machine.state().clone();
-        let values = machine.values();
+        let values = machine.state().values(&image);
         first.count = 0;
         for budget in [0, 1, BUDGET] {
             assert_eq!(machine.run(budget), first);

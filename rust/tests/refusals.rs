@@ -72,7 +72,7 @@ fn three() {
     assert_eq!(error, ReadError::TooLong { bytes: 65_537 });
     assert_eq!(
         error.to_string(),
-        "the image has 65537 bytes, and 65536 are the most"
+        "65537 bytes: too many: an image has at most 65536 bytes and 32 prototypes, a prototype at most 256 constants and 4096 instructions"
     );
 
     let prototypes = |n: usize| text(&vec!["a00100"; n]);
@@ -92,7 +92,7 @@ fn three() {
     assert_eq!(instructions(4097), ReadError::TooMany { line: 4097 });
     assert_eq!(
         instructions(4097).to_string(),
-        "line 4097 (from 0): one too many: an image has at most 32 prototypes, a prototype 256 constants and 4096 instructions"
+        "line 4097 (from 0): too many: an image has at most 65536 bytes and 32 prototypes, a prototype at most 256 constants and 4096 instructions"
     );
 }
 
@@ -216,7 +216,7 @@ fn texts_of_checking() {
         assert_eq!(error.to_string(), text);
         let start = StartError::Check(error);
         assert_eq!(start.to_string(), text);
-        assert_eq!(start.number(), error.number());
+        assert_eq!(start.number(), Some(error.number()));
     }
 }
 
@@ -224,8 +224,13 @@ fn texts_of_checking() {
 
 #[test]
 fn twenty() {
-    let image = image(&["a00202", RETURN, "e001"]);
-    let refused = |arguments: &[Value]| Machine::start(&image, arguments).unwrap_err();
+    let image = image(&["a00808", RETURN, "e001"]);
+    let refused = |arguments: &[Value]| {
+        let error = Machine::start(&image, arguments).unwrap_err();
+        let same = Machine::start_dropping(&image, arguments).unwrap_err();
+        assert_eq!(error, same);
+        error
+    };
     assert!(Machine::start(&image, &[Value::Nil; 8]).is_ok());
     assert_eq!(refused(&[Value::Nil; 9]), StartError::Arguments);
     assert_eq!(
@@ -233,7 +238,7 @@ fn twenty() {
         StartError::Arguments
     );
     assert_eq!(refused(&[Value::Function(0)]), StartError::Arguments);
-    assert_eq!(StartError::Arguments.number(), 20);
+    assert_eq!(StartError::Arguments.number(), Some(20));
     let error: Box<dyn Error> = StartError::Arguments.into();
     assert_eq!(
         error.to_string(),
@@ -385,7 +390,7 @@ fn numbers_of_lua_errors_and_operands() {
     let numbers: Vec<u8> = LuaErrorKind::ALL.iter().map(LuaErrorKind::number).collect();
     let expected: Vec<u8> = (30..=46).chain(50..=52).collect();
     assert_eq!(numbers, expected);
-    for kind in LuaErrorKind::ALL {
+    for &kind in LuaErrorKind::ALL {
         for operand in 0..4 {
             let error = naming(kind, operand);
             let outcome = Outcome::Failed(error);
@@ -487,7 +492,7 @@ fn no_two_texts_are_the_same() {
         assert_eq!(texts.len(), LuaErrorKind::ALL.len(), "operand {operand}");
     }
     // of what a run answers, the one operand is told from the other
-    for kind in LuaErrorKind::ALL {
+    for &kind in LuaErrorKind::ALL {
         let told = naming(kind, 1).to_string() != naming(kind, 2).to_string();
         let only = matches!(kind.number(), 36 | 40 | 45 | 46 | 50..=52);
         assert_eq!(told, !only, "{kind:?}");
@@ -505,7 +510,7 @@ fn texts_of_operands_that_no_run_leaves() {
         general(LuaErrorKind::LessThan),
         "the operands of `<` (or `>`) can't be compared with each other: they are neither two numbers nor two strings"
     );
-    for kind in LuaErrorKind::ALL {
+    for &kind in LuaErrorKind::ALL {
         let unheard: &[usize] = match kind.number() {
             30 | 31 => &[], // each is an operator's or a loop's
             36 | 40 => &[2, 3],

@@ -167,7 +167,8 @@ fn values_of_every_kind() {
             "NaN",
         ]
     );
-    // the values live as long as the image, not the machine
+    // these live as long as the image, not the machine
+    let values = machine.state().values(&image);
     drop(machine);
     assert_eq!(values[5], Value::String(b"\x00\xffa"));
 }
@@ -226,16 +227,4 @@ fn arguments() {
         [a, b, c, Value::Nil],
         "a missing one is nil"
     );
-
-    let eight: Vec<Value> = (1..=8).map(Value::Integer).collect();
-    let mut machine = Machine::start(&image, &eight).unwrap();
-    machine.run(BUDGET);
-    assert_eq!(machine.values(), eight[..4], "surplus ones drop");
-}
-
-#[test]
-fn images_and_states_cross_threads() {
-    fn sent<T: Send + Sync>() {}
-    sent::<Image>();
-    sent::<Machine<'static>>();
 }

@@ -7,8 +7,8 @@ import struct
 from collections import namedtuple
 
 from listing import SIGNS, instruction_line, value
-from oracle.answers import (BAD_END, BAD_FRAME, BAD_LINE, DONE, NO_CONSTANT, NO_FUNCTION, NO_PROTOTYPE, NO_REGISTER, NO_TARGET, NOT_CARRIED, RUNNING,
-                            STRAY_BYTE, TOO_DEEP, TOO_MANY, TOO_WIDE, UNFIT_OPERAND, ZERO_DIVISOR)
+from oracle.answers import (BAD_ARGUMENTS, BAD_END, BAD_FRAME, BAD_LINE, DONE, NO_CONSTANT, NO_FUNCTION, NO_PROTOTYPE, NO_REGISTER, NO_TARGET,
+                            NOT_CARRIED, RUNNING, STRAY_BYTE, TOO_DEEP, TOO_MANY, TOO_WIDE, UNFIT_OPERAND, ZERO_DIVISOR)
 from oracle.image import CONSTANT, LINE, PAYLOAD, Refused, parse
 from oracle.rules import BINARY, COMPARISONS, OPERATIONS, check
 from oracle.values import BITWISE, BOOLEAN, FUNCTION, INDEX, LEFT, LIMIT, ONLY, RIGHT, STEP
@@ -46,6 +46,8 @@ class NotExplained(Exception):
 RESULT = 0xF0
 Result = namedtuple('Result', 'number count prototype instruction operand')
 RESULT_BYTES = struct.Struct('>xBIBHB')
+# What is answered to arguments that the machine doesn't take.
+NOT_STARTED = Result(BAD_ARGUMENTS, 0, 0, 0, 0)
 
 
 def is_value(data):
@@ -160,6 +162,8 @@ def returned(at, data, prototypes, functions):
 
 def how_it_ended(result, values, prototypes, functions):
     number, count, q, p, operand = result
+    if result == NOT_STARTED and not values:
+        return "the arguments are refused: more than 8, or one that isn't nil, a boolean, an integer or a number"
     if q >= len(prototypes) or p >= len(prototypes[q].instructions):
         raise NotExplained(1, 'there is no place %d:%d in this image: the answer is for another one' % (q, p))
     five, constants = prototypes[q].instructions[p], prototypes[q].constants

@@ -1,34 +1,73 @@
 #!/usr/bin/env python3
-"""Tests of lua2image, from outside: what it writes, how it ends, and of some rules also what the image answers.
+"""Tests of lua2image: from outside what it writes, how it ends, and of some rules also what the image answers; from inside what takes many rules.
 
-    python3 tools/lua2image/test.py        needs luac5.3 (Debian's package lua5.3), and no network"""
+    python3 tools/lua2image/test.py        needs lua5.3 and luac5.3 (Debian's package lua5.3), and no network"""
+import collections
 import os
 import re
+import resource
+import stat
 import subprocess
 import sys
 import tempfile
 import unittest
+from unittest import mock
 
+sys.dont_write_bytecode = True
 HERE = os.path.dirname(os.path.abspath(__file__))
+TOOLS = os.path.join(HERE, '..')
+sys.path[1:1] = [TOOLS, os.path.join(TOOLS, 'luac')]
+import explain
+import luac_image
+from files import Unusable
+from oracle import machine
+from oracle.dice import Dice
+from oracle.figures import figure
+from oracle.values import NUMBER, double, number
+from random_rules import rule
+from translation import Refused, translated
+
 COMMAND = os.path.join(HERE, 'lua2image')
 EXAMPLES = os.path.join(HERE, '..', '..', 'examples')
-SESSION = os.path.join(HERE, '..', 'oracle', 'session')
+SESSION = os.path.join(TOOLS, 'oracle', 'session')
+RUN_LUA = os.path.join(TOOLS, 'luac', 'run.lua')
 
 # Document 01's operations in the order of their numbers.
 NAMES = dict(zip([*range(0, 4), 10, 12, *range(14, 20), *range(27, 39), *range(40, 45)],
                  ('Move LoadConstant LoadBool LoadNil Call Return Jump Test TestSet Closure NumericForPrep NumericForLoop Eq Less LessEq Not '
                   'Minus BitNot Add Sub Mul Div IDiv Mod BitAnd BitOr BitXor ShiftLeft ShiftRight').split()))
 
+NO_GLOBALS = "'%s' is a global: rules can't use globals; "
+INPUT = "give the value to the rule as an input: 'local %s = ...' as its first statement"
+ANY_NUMBER = "'...' stands for any number of values: "
+NOT_FIRST = ANY_NUMBER + "rules can't use it but to name their inputs, with 'local a, b = ...' as the first statement"
+AGAIN = "a loop or a goto leads back to the inputs: a rule takes them once; put 'local a, b = ...' before it"
+OUTER = "'%s' is a variable of an outer function: only functions and constants that are never assigned can be used from there; pass it as an argument"
+OUTER_SET = "'%s' is a variable of an outer function: functions can't assign those; return the new value"
+
 # Name, source, and every message with its line.
 REFUSALS = (
     ('global of the library', 'local x = 1\n\nreturn string.format("%d", x), 1', [
-        (3, "'string.format' is a global: rules can't use globals; pass what they need as arguments")]),
+        (3, NO_GLOBALS % 'string.format' + 'return the parts as values of their own')]),
+    ('the clock', 'local x = os.time()\nreturn os.clock()', [
+        (1, NO_GLOBALS % 'os.time' + INPUT % 'today'), (2, NO_GLOBALS % 'os.clock' + INPUT % 'today'),
+        (2, "'return f(...)' is a tail call: rules can't make tail calls; write 'return (f(...))' for one value, "
+            "or keep the values in locals and return those")]),
+    ('mathematics', 'local a = 7\na = math.floor(a / 2)\na = math.huge\na = math.sqrt(a)\na = math.random', [
+        (2, NO_GLOBALS % 'math.floor' + "write 'a // b', or 'x // 1'"), (3, NO_GLOBALS % 'math.huge' + 'write 1e999'),
+        (4, NO_GLOBALS % 'math.sqrt' + 'write what is needed as a local function'), (5, NO_GLOBALS % 'math.random' + INPUT % 'number')]),
     ('global', 'local x = 1\nx = cutoff\nreturn x', [
-        (2, "'cutoff' is a global: rules can't use globals; make it a local, or pass it as an argument")]),
+        (2, NO_GLOBALS % 'cutoff' + 'make it a local, or ' + INPUT % 'cutoff')]),
+    ('global of a table', 'local x = 1\nx = record.closed\nx = arg[x]\nreturn x', [
+        (2, NO_GLOBALS % 'record.closed' + 'make it a local, or ' + INPUT % 'closed'),
+        (3, NO_GLOBALS % 'arg[...]' + 'make it a local, or ' + INPUT % 'today')]),
     ('global that is set', 'local x = 1\nfunction rule() return 1 end', [
-        (2, "'rule' is a global: rules can't use globals; make it a local, or pass it as an argument")]),
+        (2, NO_GLOBALS % 'rule' + 'make it a local')]),
     ('globals as a table', 'local x\nx = _ENV', [
-        (2, "'_ENV' is a global: rules can't use globals; make it a local, or pass it as an argument")]),
+        (2, NO_GLOBALS % '_ENV' + 'keep each value in a local of its own')]),
+    ('globals in a function', 'local function f()\n  return cutoff, _ENV\nend', [
+        (2, NO_GLOBALS % 'cutoff' + 'make it a local, or ' + INPUT % 'cutoff'),
+        (2, NO_GLOBALS % '_ENV' + 'keep each value in a local of its own')]),
     ('table', 'local x = 1\nlocal t = {x, 2}', [
         (2, "a table is made here: rules can't use tables; keep each value in a local of its own")]),
     ('field read', 'local t\nlocal x = t.record.age', [
@@ -38,16 +77,41 @@ REFUSALS = (
     ('element', 'local t\nlocal i = 1\nt[i] = t[i]', [
         (3, "'[...]' is a field of a table: rules can't use tables; keep each value in a local of its own")]),
     ('varargs', 'local function f(...)\n  local x = ...\n  return ...\nend', [
-        (2, "'...' stands for any number of values: rules can't use it; give each value a name"),
-        (3, "'...' stands for any number of values: rules can't use it; give each value a name")]),
-    ('upvalue read', 'local cutoff = 1\nlocal function old(x)\n  return x > cutoff\nend', [
-        (3, "'cutoff' is a variable of an outer function: functions can't use those yet; pass it as an argument")]),
-    ('upvalue set', 'local n = 1\nlocal function f()\n  n = 2\nend', [
-        (3, "'n' is a variable of an outer function: functions can't use those yet; pass it as an argument")]),
+        (2, ANY_NUMBER + "functions can't use it; give each parameter a name"),
+        (3, ANY_NUMBER + "functions can't use it; give each parameter a name")]),
+    ('inputs that come late', 'local x = 1\nlocal today = ...', [(2, NOT_FIRST)]),
+    ('inputs behind a value', 'local x, today = 1, ...', [(1, NOT_FIRST)]),
+    ('inputs that come twice', 'local today = ...\nlocal closed, hold = ...', [(2, NOT_FIRST)]),
+    ('inputs without a number', 'return ...', [(1, NOT_FIRST)]),
+    ('inputs that a goto leads to', '::top::\nlocal a = ...\ngoto top', [(2, AGAIN)]),
+    ('inputs in a loop', 'while (...) do\nend', [(1, AGAIN)]),
+    ('inputs in a repeat', 'repeat\n  local a, b = ...\nuntil a', [(2, AGAIN)]),
+    ('nine inputs', 'local a, b, c, d, e, f, g, h, i = ...', [
+        (1, '9 inputs: a rule takes at most 8; use fewer, or put yes and no together as the bits of an integer')]),
+    ('an input in a function', 'local today, closed = ...\nlocal function age()\n  return today - closed\nend', [
+        (3, OUTER % 'today'), (3, OUTER % 'closed')]),
+    ('upvalue that is assigned before', 'local cutoff = 1\ncutoff = 2\nlocal function old(x)\n  return x > cutoff\nend', [(4, OUTER % 'cutoff')]),
+    ('upvalue that is assigned later', 'local cutoff = 1\nlocal function old(x)\n  return x > cutoff\nend\ncutoff = 2', [(3, OUTER % 'cutoff')]),
+    ('upvalue of one value or another', 'local c\nlocal x = c and 1 or 2\nlocal y = c == 3\nlocal function f()\n  return x, y\nend', [
+        (5, OUTER % 'x'), (5, OUTER % 'y')]),
+    ('upvalue that is worked out', 'local year = 365\nlocal keep = 7 * year\nlocal function f()\n  return keep\nend', [(4, OUTER % 'keep')]),
+    # before the call the registers of its results have the constants 1 and 2
+    ('upvalue that a call gives', (
+        'local function f() return 1, 2 end\ndo local a, b = 1, 2 end\nlocal x, y = f()\nlocal function g()\n  return x, y\nend'), [
+        (5, OUTER % 'x'), (5, OUTER % 'y')]),
+    ('upvalue that is an input or a constant', 'local x = ...\nif x then x = 1 end\nlocal y = x\nlocal function f()\n  return y\nend', [(5, OUTER % 'y')]),
+    ('upvalue that is a parameter', 'local function f(x)\n  return function()\n    return x\n  end\nend', [(3, OUTER % 'x')]),
+    ('upvalue set', 'local n = 1\nlocal function f()\n  n = 2\nend', [(3, OUTER_SET % 'n')]),
+    ('upvalue set beside', 'local n = 1\nlocal function f()\n  n = 2\nend\nlocal function g()\n  return n\nend', [(3, OUTER_SET % 'n'), (6, OUTER % 'n')]),
+    ('upvalue set from deeper', 'local n = 1\nlocal function f()\n  local function g()\n    n = 2\n  end\n  return n\nend', [
+        (4, OUTER_SET % 'n'), (6, OUTER % 'n')]),
+    ('a function that changes', 'local f\nlocal function g()\n  return (f())\nend\nf = function() return 1 end', [(3, OUTER % 'f')]),
+    ('a function that gives way', 'local function f()\n  return f\nend\nf = nil', [(2, OUTER % 'f')]),
     ('upvalue read for its field', 'local t\nlocal function f()\n  return t.x\nend', [
-        (3, "'t' is a variable of an outer function: functions can't use those yet; pass it as an argument")]),
-    ('upvalue closed by a loop', 'for i = 1, 2 do\n  local x = i\n  local f = function() return x end\nend', [
-        (3, "'x' is a variable of an outer function: functions can't use those yet; pass it as an argument")]),
+        (3, "'.x' is a field of a table: rules can't use tables; keep each value in a local of its own")]),
+    ('upvalue closed by a loop', 'for i = 1, 2 do\n  local x = i\n  local f = function() return x end\nend', [(3, OUTER % 'x')]),
+    # before the loop its variable's register has the constant 9
+    ('upvalue that a loop counts', 'do local a, b, c, d = 1, 2, 3, 9 end\nfor i = 1, 2 do\n  local f = function() return i end\nend', [(3, OUTER % 'i')]),
     ('concatenation', 'local a = "x"\nreturn a .. "y"', [
         (2, "'..' joins strings: rules can't make strings; return the parts as values of their own")]),
     ('length', 'local a = "x"\nreturn #a', [
@@ -67,7 +131,7 @@ REFUSALS = (
         (2, "'for ... in' asks a function for each next value: rules can't use it; count with 'for i = first, last do'")]),
     ('several', 'local a = {}\nprint(a)\nreturn #a', [
         (1, "a table is made here: rules can't use tables; keep each value in a local of its own"),
-        (2, "'print' is a global: rules can't use globals; pass what they need as arguments"),
+        (2, NO_GLOBALS % 'print' + 'return the values'),
         (3, "'#' asks for a length: rules can't take lengths; give the length as a number")]),
     ('functions', 'local function f() end\n' * 32, [
         (32, '33 functions, the main program among them: an image has at most 32; put some of them together')]),
@@ -77,6 +141,11 @@ REFUSALS = (
         (4096, '4097 instructions in one function: at most 4,096 are carried; split it into several functions')]),
     ('string', 'local x\nx = "%s"' % ('a' * 65), [
         (2, 'a string of 65 bytes: at most 64 are carried; use a shorter one')]),
+    ('constants with those of an outer function', 'local year = 365\nlocal function f(x)\n%s  x = year\nend' % ''.join(
+        '  x = %d.5\n' % i for i in range(256)), [
+        (259, '257 constants in one function: at most 256 are carried; split it into several functions')]),
+    ('string of an outer function', 'local x = "%s"\nlocal function f()\n  return x\nend' % ('a' * 65), [
+        (1, 'a string of 65 bytes: at most 64 are carried; use a shorter one')]),
     ('bytes', 'local function f()\n local x\n%send\nlocal function g()\n local x\n%send\n' % (2 * ('x = 1\n' * 3000,)), [
         (5036, 'the image passes 65,536 bytes here and has 78159: more are not read; make the rule shorter')]),
     ('registers', 'local f\nf(%s)' % ','.join('1' * 256), [
@@ -96,6 +165,10 @@ CARRIED = (
     ('string', 'local x\nx = "%s"' % ('a' * 64)),
     ('calls in parentheses', 'local function f(a) return a end\nf((f(1)))\nreturn (f(2))'),
     ('a power of constants', 'return 2 ^ 3'),
+    ('eight inputs', 'local a, b, c, d, e, f, g, h = ...'),
+    ('inputs before a loop', 'local a = ...\n::top::\nif a then goto top end'),
+    ('a constant of an outer function that is there already', 'local year = 255.5\nlocal function f(x)\n%s  x = year\nend' % ''.join(
+        '  x = %d.5\n' % i for i in range(256))),
 )
 
 SOURCE = '''local a, b = nil, "it's\\n"
@@ -193,6 +266,87 @@ b0037ff0000000000000
 b0037ff0000000000000
 b0038000000000000000
 '''
+
+# A rule that is told its inputs, its arguments, and what comes of them: a verdict, an age, and an input that isn't given.
+TOLD = '''local today, closed, hold, never = ...
+if today - closed > 2555 and not hold then return "release", today - closed, never end
+return "keep", today - closed, never
+'''
+TOLD_ANSWERS = (
+    (['20407', '17531', 'false'], 'b00472656c65617365\nb0020000000000000b3c\nb000\n'),
+    (['20407', '17531', 'true', '7'], 'b0046b656570\nb0020000000000000b3c\nb0020000000000000007\n'),
+    ([' 0x10 ', '1e3', 'nil', '-.5'], 'b0046b656570\nb003c08ec00000000000\nb003bfe0000000000000\n'),
+)
+
+# Helpers that use helpers and constants, of every kind and through several functions; what is closed by a loop needs no closing.
+HELPERS = '''local year, name, on, off, none, half = 365, "x", true, false, nil, 0.5
+local function days(years)
+  return years * year
+end
+local copy = days
+local function kept(age)
+  local weeks = 52
+  local function deeper(n)
+    return n <= copy(7) and weeks
+  end
+  return (deeper(age))
+end
+local function factorial(n)
+  if n < 2 then return 1 end
+  return n * factorial(n - 1)
+end
+local sum = 0
+for i = 1, 3 do
+  local three = 3
+  local f = function(x) return x * three end
+  sum = sum + f(i)
+  if sum > 100 then break end
+end
+local function all()
+  return name, on, off, none, half
+end
+local a, b, c, d, e = all()
+return kept(2555), kept(2556), factorial(5), sum, a, b, c, d, e, (days(2))
+'''
+HELPERS_LISTED = (
+    '1:0     line 3     LoadConstant    r1 = 365\n', '2:0     line 7     LoadConstant    r1 = 52\n',
+    '3:0     line 9     Closure         r1 = prototype 1\n', '3:5     line 9     LoadConstant    r1 = 52\n',
+    '4:4     line 15    Closure         r1 = prototype 4\n', '6:1     line 25    LoadBool        r1 = true\n',
+    '6:3     line 25    LoadNil         r3 = nil\n',
+)
+HELPERS_SAID = '''\
+52
+false
+120
+18
+"x"
+true
+false
+nil
+0.5
+730
+'''
+
+# Steps of 0: the source, and the lines that are warned about.
+STEPS = (
+    ('for i = 1, 2, 0 do\nend', [1]),
+    ('local x\nfor i = 1, 2, -0 do end\nfor i = 1, 2, 0.0 do x = i end', [2, 3]),
+    ('local step = 0\nlocal again = step\nlocal function f()\n  for i = 1, 2, again do end\nend', [4]),
+    ('for i = 1, 2 do end\nfor i = 2, 1, -1 do end\nfor i = 0, 0, 0.5 do end', []),
+    ('local step = 0\nif step == 1 then step = 1 end\nfor i = 1, 2, step do end', []),
+    ('local step = ...\nfor i = 1, 2, step do end', []),
+)
+NO_STEP = "warning: the step of this 'for' is 0: the loop has no end, or no pass"
+
+# What a luac5.3 may do that isn't as it should be, as the lines of a shell, and what is said of it.
+STRANGE_LUACS = (
+    ('exit 1', 'luac5.3 ended with status 1 and said nothing'),
+    ('echo nonsense >&2; exit 1', 'nonsense'),
+    ('kill -SEGV $$', 'luac5.3 was ended by signal 11'),
+    ('exit 0', 'luac5.3 wrote no chunk'),
+    (': > "$2"', "luac5.3's chunk ends early"),
+    ("printf '\\033LuaT12345678901234567890123456789' > \"$2\"", "luac5.3's chunk isn't one of Lua 5.3 on a machine of 64 bits"),
+)
 
 # Each Lua error by a rule that raises it, what the image answers, and that in words. Operators of two operands come below.
 ERRORS = (
@@ -330,6 +484,10 @@ NO_ANSWERS = (
     ('f02e0000000100000002\n', NOT_FOR % (46, 0, 0, 2, 'no value')),
     ('f0320000000100000000\n', NOT_FOR % (50, 0, 0, 0, 'no value')),
     ('f03c0000000000000000\n', NOT_FOR % (60, 0, 0, 0, 'no value')),
+    ('f0140000000100000000\n', NOT_FOR % (20, 0, 0, 0, 'no value')),
+    ('f0140000000000000100\n', NOT_FOR % (20, 0, 1, 0, 'no value')),
+    ('f0140000000000000001\n', NOT_FOR % (20, 0, 0, 1, 'no value')),
+    ('f0140000000000000000\nb000\n', NOT_FOR % (20, 0, 0, 0, '1 value')),
     ('f0040000000000000500\n', 'line 1: answer 4 refuses an image (no e0 line at the end, or a byte after it), and this one is run: '
                                 'the answer is for another one'),
 )
@@ -341,10 +499,22 @@ def lua2image(*arguments, answer='', **environment):
     return done.returncode, done.stdout, done.stderr
 
 
-def session(image):
+def in_shell(line, *words):
+    """A command line of the shell, in which "$@" is lua2image and these words."""
+    done = subprocess.run(['sh', '-c', line, 'sh', sys.executable, COMMAND, *words], stdout=subprocess.PIPE, stderr=subprocess.PIPE,
+                          universal_newlines=True)
+    return done.returncode, done.stdout, done.stderr
+
+
+def session(image, *arguments):
     """What the machine answers for the image in a file."""
     with open(image, 'rb') as file:
-        return subprocess.run([sys.executable, SESSION], stdin=file, stdout=subprocess.PIPE, check=True, universal_newlines=True).stdout
+        return subprocess.run([sys.executable, SESSION, *arguments], stdin=file, stdout=subprocess.PIPE, check=True, universal_newlines=True).stdout
+
+
+def content(path):
+    with open(path, 'rb') as file:
+        return file.read()
 
 
 def instructions(image):
@@ -384,17 +554,22 @@ class Refusals(Test):
     def test_each_message_stands_at_its_line(self):
         for name, source, messages in REFUSALS:
             with self.subTest(name):
-                path, image = self.file('rule.lua', source), self.file('rule.image')
-                status, out, said = lua2image(path, '-o', image)
-                self.assertEqual(said, ''.join('%s:%d: %s\n' % (path, line, message) for line, message in messages))
-                self.assertEqual((status, out, os.path.exists(image)), (1, '', False))
+                with self.assertRaises(Refused) as refused:
+                    translated(source.encode())
+                self.assertEqual(refused.exception.args[0], messages)
 
     def test_what_just_fits_is_carried(self):
         for name, source in CARRIED:
             with self.subTest(name):
-                status, out, said = lua2image(self.file('rule.lua', source))
-                self.assertEqual((status, said), (0, ''))
-                self.assertTrue(out.startswith('a0'))
+                made = translated(source.encode())
+                self.assertEqual((made.image[:2], made.warnings), ('a0', []))
+
+    def test_from_outside(self):
+        path, image = self.file('rule.lua', 'local a = {}\nreturn #a'), self.file('rule.image')
+        self.assertEqual(lua2image(path, '-o', image), (1, '', (
+            path + ":1: a table is made here: rules can't use tables; keep each value in a local of its own\n"
+            + path + ":2: '#' asks for a length: rules can't take lengths; give the length as a number\n")))
+        self.assertFalse(os.path.exists(image))
 
     def test_a_source_that_is_not_utf_8(self):
         path = self.file('rule.lua', 'local x\nx = "caf\xe9\n')
@@ -407,10 +582,17 @@ class Refusals(Test):
         self.assertEqual(lua2image('--list', path), (1, '', (
             path + ':2: not an image: answer 2 at line 1 counted from 0, an unknown kind, or a wrong length, tag, order or field\n')))
 
-    def test_a_compiled_file_without_lines(self):
-        stripped = self.file('stripped.lua')
-        subprocess.run(['luac5.3', '-s', '-o', stripped, self.file('rule.lua', 'return 7')], check=True)
-        self.assertEqual(lua2image(stripped), (1, '', stripped + ':1: a compiled file without its source lines: give the source\n'))
+    def test_a_compiled_file(self):
+        rule = self.file('rule.lua', 'local x = 7\nreturn x')
+        for options in ([], ['-s']):
+            compiled = self.file('compiled.lua')
+            subprocess.run(['luac5.3', *options, '-o', compiled, rule], check=True)
+            self.assertEqual(lua2image(compiled), (1, '', compiled + ':1: a compiled file: give the source\n'))
+        with open(compiled, 'rb') as file:
+            chunk = file.read()
+        for begins in (chunk[:1], chunk[:3], chunk[:20], b'\xef\xbb\xbf' + chunk, b'#!lua\n' + chunk, b'\xef\xbb\xbf#\n' + chunk):
+            with self.assertRaisesRegex(Refused, 'a compiled file'):
+                translated(begins)
 
 
 class Usage(Test):
@@ -448,6 +630,250 @@ class Usage(Test):
             self.assertEqual(file.read(), out)
         listing = lua2image('--list', rule)
         self.assertEqual(lua2image('--list', rule, '-o', image), listing)
+
+
+    def test_version_and_help(self):
+        self.assertEqual(lua2image('--version'), (0, 'lua2image 0.2.0\n', ''))
+        status, out, said = lua2image('--help')
+        self.assertEqual((status, said), (0, ''))
+        self.assertRegex(out, r'(?s)usage: lua2image .*Exit status:\n    0 .*\n    1 .*\n    2 ')
+
+
+IMAGE_OF_7 = 'a00200\nb0020000000000000007\nc00100000000\nc00c00000100\nc00c00000000\ne001\n'
+
+
+class Files(Test):
+    def test_the_source_is_read_once(self):
+        path = self.file('rule.lua', 'return 7')
+        for line in ('"$@" - < RULE', '"$@" /dev/stdin < RULE', 'cat RULE | "$@" -', 'cat RULE | "$@" /dev/stdin'):
+            with self.subTest(line):
+                self.assertEqual(in_shell(line.replace('RULE', path)), (0, IMAGE_OF_7, ''))
+        pipe = self.file('pipe')
+        os.mkfifo(pipe)
+        self.assertEqual(in_shell('cat %s > %s & "$@"' % (path, pipe), pipe), (0, IMAGE_OF_7, ''))
+
+    def test_messages_for_standard_input(self):
+        self.assertEqual(lua2image('-', answer='local x = 1\nlocal = 2'), (1, '', "-:2: <name> expected near '='\n"))
+
+    def test_the_image_cannot_be_the_source(self):
+        source = 'return 7'
+        path, link, hard = self.file('rule.lua', source), self.file('link'), self.file('hard')
+        os.symlink(path, link)
+        os.link(path, hard)
+        for target in (path, os.path.join(self.folder, '.', 'rule.lua'), link, hard):
+            with self.subTest(target):
+                self.assertEqual(lua2image(path, '-o', target), (2, '', 'lua2image: %s is FILE itself: what is written would take its place\n' % target))
+        status, _, said = in_shell('"$@" < ' + path, '-', '-o', path)
+        self.assertEqual((status, content(path).decode()), (2, source), said)
+        status, _, said = in_shell('"$@" >> ' + path, path)
+        self.assertEqual((status, content(path).decode()), (2, source), said)
+
+    def test_standard_output_by_name(self):
+        path, out = self.file('rule.lua', 'return 7'), self.file('out')
+        self.assertEqual(lua2image(path, '-o', '-'), (0, IMAGE_OF_7, ''))
+        self.assertEqual(lua2image(path, '-o', '/dev/stdout'), (0, IMAGE_OF_7, ''))
+        self.assertEqual(in_shell('{ echo before; "$@"; } > ' + out, path, '-o', '/dev/stdout'), (0, '', ''))
+        self.assertEqual(content(out).decode(), 'before\n' + IMAGE_OF_7)
+        status, out, said = lua2image('--list', path, '-o', '-')
+        self.assertEqual((status, out), (2, ''))
+        self.assertIn('usage: lua2image', said)
+
+    def test_an_image_takes_the_place_of_another(self):
+        path, image, link = self.file('rule.lua', 'return 7'), self.file('rule.image', 'old'), self.file('link')
+        os.chmod(image, 0o640)
+        os.symlink(image, link)
+        self.assertEqual(lua2image(path, '-o', link), (0, '', ''))
+        self.assertEqual((content(image).decode(), stat.S_IMODE(os.stat(image).st_mode), os.path.islink(link)), (IMAGE_OF_7, 0o640, True))
+        self.assertEqual(sorted(os.listdir(self.folder)), ['link', 'rule.image', 'rule.lua'])
+
+    def test_what_cannot_be_written(self):
+        path, image = self.file('rule.lua', 'local x\n' + 'x = 1\n' * 60), self.file('rule.image', 'old')
+        # luac's chunk has fewer bytes than the image
+        size = len(translated(content(path)).image)
+        done = subprocess.run([sys.executable, COMMAND, path, '-o', image], stderr=subprocess.PIPE, universal_newlines=True,
+                              preexec_fn=lambda: resource.setrlimit(resource.RLIMIT_FSIZE, (size - 1, size - 1)))
+        self.assertEqual((done.returncode, done.stderr), (2, "lua2image: %s can't be written: File too large\n" % image))
+        self.assertEqual((content(image), sorted(os.listdir(self.folder))), (b'old', ['rule.image', 'rule.lua']))
+        no_room = "can't be written: No space left on device\n"
+        for words, name in (((path, '-o', '/dev/full'), '/dev/full'), ((path,), 'standard output'), (('--list', path), 'standard output'),
+                            (('--version',), 'standard output')):
+            with self.subTest(words):
+                self.assertEqual(in_shell('"$@" > /dev/full', *words), (2, '', 'lua2image: %s %s' % (name, no_room)))
+        self.assertEqual(in_shell('"$@" >&-', path), (2, '', 'lua2image: standard output is closed\n'))
+        self.assertEqual(in_shell('"$@" >&-', path, '-o', image), (0, '', ''))
+        missing = os.path.join(self.folder, 'nowhere', 'rule.image')
+        self.assertEqual(lua2image(path, '-o', missing), (2, '', "lua2image: %s can't be written: No such file or directory\n" % missing))
+
+    def test_a_broken_pipe(self):
+        read, write = os.pipe()
+        os.close(read)
+        done = subprocess.run([sys.executable, COMMAND, self.file('rule.lua', 'return 7')], stdout=write, stderr=subprocess.PIPE, universal_newlines=True)
+        os.close(write)
+        self.assertEqual((done.returncode, done.stderr), (2, "lua2image: standard output can't be written: Broken pipe\n"))
+
+    def test_closed_streams(self):
+        path = self.file('rule.lua', 'return #x')
+        self.assertEqual(in_shell('"$@" 2>&-', path), (1, '', ''))
+        self.assertEqual(in_shell('"$@" 2> /dev/full', path), (1, '', ''))
+        self.assertEqual(in_shell('"$@" <&-', '-'), (2, '', 'lua2image: standard input is closed\n'))
+        self.assertEqual(in_shell('"$@" <&-', '--explain', path), (2, '', 'lua2image: standard input is closed\n'))
+
+    def test_an_image_is_known_by_its_content(self):
+        as_source, as_image = self.file('image.lua', IMAGE_OF_7), self.file('source.image', 'return 7')
+        listing = lua2image('--list', self.file('seven.image', IMAGE_OF_7))
+        self.assertEqual((listing[0], listing[1][:12]), (0, 'prototype 0:'))
+        self.assertEqual(lua2image('--list', as_source), listing)
+        self.assertEqual(lua2image('--list', '-', answer=IMAGE_OF_7), listing)
+        self.assertEqual(lua2image('--explain', as_source, answer='f0000000000200000100\nb0020000000000000007\n')[:2], (
+            0, 'finished after 2 instructions, at place 0:1: 1 value\n7\n'))
+        self.assertEqual(lua2image(as_image), (0, IMAGE_OF_7, ''))
+        status, out, said = lua2image(as_source)
+        self.assertEqual((status, out), (2, ''))
+        self.assertIn(as_source + ' is an image already; --list shows what is in it\n', said)
+        damaged = self.file('damaged', 'A00200\r\n')
+        self.assertIn(damaged + ':1: not an image', lua2image('--list', damaged)[2])
+
+    def test_an_answer_and_a_file_at_once(self):
+        message = 'lua2image: --explain reads the answer from standard input: FILE has to be another file\n'
+        for name in ('-', '/dev/stdin'):
+            self.assertEqual(lua2image('--explain', name, answer=RETURNS), (2, '', message))
+        self.assertEqual(in_shell('"$@" < ' + self.file('answer', RETURNS), '--explain', '/dev/stdin'), (2, '', message))
+
+
+class StrangeLuacs(Test):
+    def test_a_message_for_each(self):
+        rule, luac = self.file('rule.lua', 'return 7'), self.file('luac5.3')
+        for script, message in STRANGE_LUACS:
+            with self.subTest(script):
+                self.file('luac5.3', '#!/bin/sh\n%s\n' % script)
+                os.chmod(luac, 0o755)
+                self.assertEqual(lua2image(rule, PATH=self.folder + os.pathsep + os.environ['PATH']), (2, '', 'lua2image: %s\n' % message))
+
+    def test_damaged_chunks(self):
+        """Every truncation and much other damage of a chunk end in a message, or in an image that the machine accepts."""
+        chunk = luac_image.chunk_of(HELPERS.encode())
+        dice = Dice(7)
+        damaged = [chunk[:n] for n in range(len(chunk))] + [chunk + b'\0']
+        for _ in range(1500):
+            bytes_of = bytearray(chunk)
+            for _ in range(1 + dice.below(3)):
+                bytes_of[34 + dice.below(len(chunk) - 34)] = dice.pick([0, 1, 127, 128, 255, dice.below(256)])
+            damaged.append(bytes(bytes_of))
+        ended = collections.Counter()
+        for data in damaged:
+            with mock.patch.object(luac_image, 'chunk_of', return_value=data):
+                try:
+                    ended[type(translated(b''))] += 1
+                except (Refused, Unusable) as refusal:
+                    ended[type(refusal)] += 1
+        self.assertGreaterEqual(ended[Unusable], len(chunk) + 1)
+        self.assertEqual(len(ended), 3, ended)
+
+
+class Inputs(Test):
+    def test_they_become_parameters(self):
+        rule, image = self.file('rule.lua', TOLD), self.file('rule.image')
+        status, out, said = lua2image('--list', rule, '-o', image)
+        self.assertEqual((status, said), (0, ''))
+        self.assertIn('prototype 0, the main program: registers 7, parameters 4\n0:0     line 2     Sub             r4 = r0 - r1\n', out)
+        for arguments, values in TOLD_ANSWERS:
+            with self.subTest(arguments):
+                answer = session(image, *arguments)
+                self.assertEqual(answer.partition('\n')[2], values)
+                self.assertEqual(lua2image('--explain', rule, answer=answer)[0], 0)
+
+    def test_any_first_use_of_so_many(self):
+        for source, parameters in (('return (...)', 1), ('local a, b = ...', 2), ('do local a, b, c = ... end', 3), ('for i = ..., 7 do end', 1),
+                                   ('if (...) then return 1 end', 1), ('local a = (...)\nlocal function f() return 1 end', 1)):
+            with self.subTest(source):
+                made = translated(source.encode())
+                self.assertEqual(made.prototypes[0].parameters, parameters)
+
+    def test_what_is_no_argument(self):
+        image = self.file('rule.image', IMAGE_OF_7)
+        for argument in ('', 'x', '1e23', '0x', '1 2', 'True', 'inf', '"7"'):
+            with open(image) as file:
+                done = subprocess.run([sys.executable, SESSION, argument], stdin=file, stdout=subprocess.PIPE, stderr=subprocess.PIPE)
+            self.assertEqual((done.returncode, done.stdout), (2, b''), argument)
+
+    def test_arguments_that_are_refused(self):
+        image = self.file('rule.image', IMAGE_OF_7)
+        answer = session(image, *'123456789')
+        self.assertEqual(answer, 'f0140000000000000000\n')
+        self.assertEqual(lua2image('--explain', image, answer=answer), (0, (
+            "the arguments are refused: more than 8, or one that isn't nil, a boolean, an integer or a number\n"), ''))
+
+
+class Helpers(Test):
+    def test_functions_and_constants_around(self):
+        rule, image = self.file('rule.lua', HELPERS), self.file('rule.image')
+        status, out, said = lua2image('--list', rule, '-o', image)
+        self.assertEqual((status, said), (0, ''))
+        for line in HELPERS_LISTED:
+            self.assertIn(line, out)
+        status, out, said = lua2image('--explain', rule, answer=session(image))
+        self.assertEqual((status, out.partition('\n')[2], said), (0, HELPERS_SAID, ''))
+
+    def test_a_constant_that_is_there_is_not_added(self):
+        made = translated(b'local year, day = 365, 365\nlocal function f(x) return x - 365 - year - day end')
+        self.assertEqual(len(made.prototypes[1].constants), 1)
+
+    def test_in_code_that_is_never_reached(self):
+        made = translated(b'local year = 365\nif false then\n  local function f() return year end\nend\ndo return end\nlocal function g() return year end')
+        self.assertEqual([len(prototype.constants) for prototype in made.prototypes], [1, 1, 1])
+        translated(b'local year = 365\nif false then\n  local days = year\n  local function f() return days end\nend')
+
+
+def shown(m, value):
+    """A value as run.lua writes it: NaNs are one."""
+    kind, word = value
+    return m.shown(number(double(word)) if kind == NUMBER else value)
+
+
+class AgainstLua(Test):
+    COUNT = 220
+
+    def answered(self, image, arguments):
+        """What the machine answers, in run.lua's words; None where a limit is passed that Lua hasn't."""
+        m = machine.Machine()
+        values = [number(float(text)) if text == '1e999' else figure(text.encode()) for text in arguments]
+        self.assertEqual((m.read(image)[0], m.start(values)[0]), (0, 0))
+        answer = m.run(20000)[0]
+        if answer in (51, 52, 70):
+            return None
+        return ' '.join(['ok', *(shown(m, value) for value in m.returned())]) if answer == 0 else 'error'
+
+    def test_rules_made_by_chance(self):
+        """What is carried answers what lua5.3 does, and what is tame is carried."""
+        carried = []
+        for seed in range(self.COUNT):
+            source, arguments, is_tame = rule(seed)
+            try:
+                carried.append((source, arguments, translated(source.encode()).image))
+            except Refused as refusal:
+                self.assertFalse(is_tame, '%s\n%s' % (source, refusal))
+                continue
+            self.file('%d.lua' % len(carried), 'return (function(...) %s\nend)(%s)\n' % (source, ', '.join(arguments)))
+        lua = subprocess.run(['lua5.3', RUN_LUA, self.folder, str(len(carried))], stdout=subprocess.PIPE, check=True, universal_newlines=True).stdout
+        agreed = 0
+        for (source, arguments, image), said in zip(carried, lua.splitlines()):
+            has = self.answered(image, arguments)
+            if has is not None:
+                self.assertEqual(has, said if said.startswith('ok') else 'error', '%s%s' % (source, arguments))
+                agreed += 1
+        self.assertGreater(agreed, self.COUNT // 2)
+
+
+class Warnings(Test):
+    def test_steps_of_zero(self):
+        for source, lines in STEPS:
+            with self.subTest(source):
+                self.assertEqual(translated(source.encode()).warnings, [(line, NO_STEP) for line in lines])
+
+    def test_from_outside(self):
+        path = self.file('rule.lua', 'local step = 0\nfor i = 2, 1, step do end\nreturn 7')
+        status, out, said = lua2image(path)
+        self.assertEqual((status, out[:2], said), (0, 'a0', '%s:2: %s\n' % (path, NO_STEP)))
 
 
 class Listing(Test):
@@ -510,12 +936,12 @@ class Explaining(Test):
 
     def ends(self, source, answer):
         """What is said of a rule that answers this, from its source; its image says the same of the place."""
-        rule, image = self.file('rule.lua', source), self.file('rule.image')
-        self.assertEqual(lua2image(rule, '-o', image), (0, '', ''))
-        self.assertEqual(session(image), answer + '\n')
-        said = self.explained(rule, answer + '\n')
+        made = translated(source.encode())
+        image, written = made.image.encode(), answer.encode() + b'\n'
+        self.assertEqual(machine.session(image), written.decode())
+        said = explain.explained(written, image, made.functions)
         place = 'place %d:%d' % (int(answer[12:14], 16), int(answer[14:18], 16))
-        self.assertEqual(self.explained(image, answer + '\n'), re.sub(r'^line \d+', place, said))
+        self.assertEqual(explain.explained(written, image), re.sub(r'^line \d+', place, said))
         return said
 
     def test_errors(self):
@@ -610,19 +1036,14 @@ class WalkThrough(Test):
             readme = file.read()
         source, = re.findall(r'```lua\n(.*?)```', readme, re.S)
         shown = re.findall(r'^    \$ (.*)\n((?:    [^$].*\n)*)', readme, re.M)
-        finishes, fails = [self.said(rule) for rule in (source, source.replace('17531', 'nil'))]
         expected = [(command, re.sub('^    ', '', output, flags=re.M)) for command, output in shown]
-        explain = 'tools/lua2image/lua2image --explain rule.lua < answer'
-        self.assertEqual(expected, [('tools/lua2image/lua2image --list rule.lua', finishes[0]), ('./deletion rule.image > answer', ''),
-                                    ('cat answer', finishes[1]), (explain, finishes[2]), (explain, fails[2])])
-        self.assertIn('the same rule answers\n\n    ' + fails[1], readme)
-
-    def said(self, source):
-        """The listing of a rule, its answer, and that in words."""
         rule, image = self.file('rule.lua', source), self.file('rule.image')
-        listing = lua2image('--list', rule, '-o', image)[1]
-        answer = session(image)
-        return listing, answer, lua2image('--explain', rule, answer=answer)[1]
+        has = [('tools/lua2image/lua2image --list rule.lua', lua2image('--list', rule, '-o', image)[1])]
+        for arguments in ('20407 17531 false', '20407 nil false'):
+            answer = session(image, *arguments.split())
+            has += [('./deletion rule.image %s > answer' % arguments, ''), ('cat answer', answer),
+                    ('tools/lua2image/lua2image --explain rule.lua < answer', lua2image('--explain', rule, answer=answer)[1])]
+        self.assertEqual(expected, has)
 
 
 if __name__ == '__main__':

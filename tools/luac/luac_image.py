@@ -6,7 +6,9 @@
 Every instruction becomes one instruction, at the same place, with the same operands. What the machine doesn't carry is refused, with the
 operation and the source line. README.md says what that is.
 
-    translate(path)      the Program of a source file: its prototypes in the image's order, and where each instruction comes from"""
+    translate(path)      the Program of a source file: its prototypes in the image's order, and where each instruction comes from
+    compiled(source)     the main Function of a source's bytes, as luac5.3 makes it
+    numbered(main)       it and the functions within it, in the image's order"""
 import os
 import struct
 import subprocess
@@ -31,6 +33,9 @@ BINARY = {
 }
 COMPARISONS = {'EQ': 'Eq', 'LT': 'Less', 'LE': 'LessEq'}
 
+# luac5.3 itself goes no deeper.
+MOST_NESTED = 200
+
 
 class Refused(Exception):
     pass
@@ -46,8 +51,8 @@ class Chunk:
 
     def take(self, n):
         part = self.data[self.at:self.at + n]
-        if len(part) < n:
-            raise Refused('the chunk ends early')
+        if len(part) != n:
+            raise Refused("luac5.3's chunk ends early")
         self.at += n
         return part
 
@@ -61,16 +66,17 @@ class Chunk:
         return [element() for _ in range(self.int())]
 
     def string(self):
+        """Its bytes; none at all, which only a stripped chunk has, are b''."""
         size = self.byte()
         if size == 255:
             size = struct.unpack('<Q', self.take(8))[0]
-        return self.take(size - 1) if size else None
+        return self.take(size - 1) if size else b''
 
     def header(self):
         """Lua 5.3, with the sizes of a 64-bit machine, low byte first."""
         wanted = b'\x1bLua\x53\0\x19\x93\r\n\x1a\n\x04\x08\x04\x08\x08' + struct.pack('<qd', 0x5678, 370.5)
         if self.take(len(wanted)) != wanted:
-            raise Refused('not a chunk of Lua 5.3 on a machine of 64 bits')
+            raise Refused("luac5.3's chunk isn't one of Lua 5.3 on a machine of 64 bits")
         self.byte()
 
     def constant(self):
@@ -86,13 +92,16 @@ class Chunk:
             return bytes([INTEGER]) + self.take(8)[::-1]
         if kind in (4, 0x14):
             return bytes([STRING]) + self.string()
-        raise Refused('a constant of type %d' % kind)
+        raise Refused("luac5.3's chunk has a constant of type %d" % kind)
 
 
 class Function:
-    """A function of the chunk. `lines` has the source line of each instruction."""
+    """A function of the chunk. `lines` has the source line of each instruction; an upvalue is (whether it is a register of the function around it,
+    the number of that register or of that function's upvalue), a local is (name, the first instruction of its scope, the first after it)."""
 
-    def __init__(self, chunk):
+    def __init__(self, chunk, depth=0):
+        if depth > MOST_NESTED:
+            raise Refused("luac5.3's chunk has functions nested more than %d deep" % MOST_NESTED)
         chunk.string()
         self.line = chunk.int()
         chunk.int()
@@ -101,28 +110,118 @@ class Function:
         self.registers = chunk.byte()
         self.code = chunk.list(lambda: struct.unpack('<I', chunk.take(4))[0])
         self.constants = chunk.list(chunk.constant)
-        self.upvalues = chunk.list(lambda: chunk.take(2))
-        self.functions = chunk.list(lambda: Function(chunk))
+        self.upvalues = chunk.list(lambda: tuple(chunk.take(2)))
+        self.functions = chunk.list(lambda: Function(chunk, depth + 1))
         self.lines = chunk.list(chunk.int)
-        chunk.list(lambda: (chunk.string(), chunk.int(), chunk.int()))
+        self.locals = chunk.list(lambda: (chunk.string(), chunk.int(), chunk.int()))
         self.upvalue_names = chunk.list(chunk.string)
+        self.demand_whole()
+
+    def demand_whole(self):
+        """Refuses a chunk that isn't luac's: what follows counts on what instructions name to be there, and on the lines and names."""
+        if not self.code or len(self.lines) != len(self.code) or len(self.upvalue_names) != len(self.upvalues):
+            raise Refused("luac5.3's chunk lacks instructions, their lines or names")
+        if not all(0 <= start <= end <= len(self.code) for _, start, end in self.locals):
+            raise Refused("luac5.3's chunk has a local whose scope isn't there")
+        for p, word in enumerate(self.code):
+            if word & 63 >= len(NAMES):
+                raise Refused("luac5.3's chunk has an unknown operation, %d" % (word & 63))
+            name = operation(word)
+            named = (
+                (upvalues_used(word), self.upvalues), (constants_used(word), self.constants),
+                ([wide(word)] if name == 'CLOSURE' else [], self.functions), ([p + 1 + jump(word)] if name in JUMPS else [], self.code),
+            )
+            if any(not 0 <= number < len(those) for numbers, those in named for number in numbers):
+                raise Refused("luac5.3's chunk has a %s, instruction %d, that names what isn't there" % (name, p))
+
+
+# ---- luac's instructions
+
+# Those that have an offset.
+JUMPS = ('JMP', 'FORLOOP', 'FORPREP', 'TFORLOOP')
 
 
 def operation(word):
     return NAMES[word & 63]
 
 
-def compiled(path):
-    """The main function of a source file."""
+def decoded(word):
+    """The operation's name, and its operands a, b, c."""
+    return operation(word), word >> 6 & 255, word >> 23, word >> 14 & 511
+
+
+def wide(word):
+    """The operand that stands where b and c do."""
+    return word >> 14
+
+
+def jump(word):
+    """The offset of a jump, from the instruction after it."""
+    return wide(word) - 131071
+
+
+def encoded(name, a, wide_operand):
+    """An instruction with a wide operand."""
+    return NAMES.index(name) | a << 6 | wide_operand << 14
+
+
+def constants_used(word):
+    """The numbers of the constants among an instruction's operands."""
+    name, _, b, c = decoded(word)
+    if name == 'LOADK':
+        return [wide(word)]
+    if name in BINARY or name in COMPARISONS or name in ('POW', 'SETTABUP', 'SETTABLE'):
+        operands = [b, c]
+    else:
+        operands = [c] if name in ('GETTABUP', 'GETTABLE', 'SELF') else []
+    return [operand - 256 for operand in operands if operand >= 256]
+
+
+def upvalues_used(word):
+    """The numbers of the upvalues among an instruction's operands."""
+    name, a, b, _ = decoded(word)
+    if name in ('GETUPVAL', 'SETUPVAL', 'GETTABUP'):
+        return [b]
+    return [a] if name == 'SETTABUP' else []
+
+
+def numbered(main):
+    """The functions in the image's order, each before those within it; `number` is a function's place there."""
+    functions, waiting = [], [main]
+    while waiting:
+        function = waiting.pop()
+        function.number = len(functions)
+        functions.append(function)
+        waiting += reversed(function.functions)
+    return functions
+
+
+# ---- luac5.3 itself
+
+def chunk_of(source):
+    """What luac5.3 writes for a source, which it is given on its standard input."""
     with tempfile.TemporaryDirectory() as folder:
         out = os.path.join(folder, 'out')
-        done = subprocess.run(['luac5.3', '-o', out, path], stderr=subprocess.PIPE, universal_newlines=True, errors='replace')
+        done = subprocess.run(['luac5.3', '-o', out, '-'], input=source, stdout=subprocess.DEVNULL, stderr=subprocess.PIPE)
+        if done.returncode < 0:
+            raise Refused('luac5.3 was ended by signal %d' % -done.returncode)
         if done.returncode:
-            raise Refused(done.stderr.strip())
-        with open(out, 'rb') as file:
-            chunk = Chunk(file.read())
+            complaint = done.stderr.decode('utf-8', 'replace').strip()
+            raise Refused(complaint or 'luac5.3 ended with status %d and said nothing' % done.returncode)
+        try:
+            with open(out, 'rb') as file:
+                return file.read()
+        except FileNotFoundError:
+            raise Refused('luac5.3 wrote no chunk')
+
+
+def compiled(source):
+    chunk = Chunk(chunk_of(source))
     chunk.header()
-    return Function(chunk)
+    main = Function(chunk)
+    if chunk.at < len(chunk.data):
+        raise Refused("luac5.3's chunk goes on after its end")
+    return main
 
 
 # ---- the image
@@ -131,8 +230,7 @@ class Program:
     """functions: the chunk's functions in the image's order, each before those within it. prototypes: what the image has of them."""
 
     def __init__(self, main):
-        self.functions = []
-        self.number(main)
+        self.functions = numbered(main)
         if len(self.functions) > MOST_PROTOTYPES:
             raise Refused('%d functions; an image has at most %d' % (len(self.functions), MOST_PROTOTYPES))
         self.prototypes = [self.prototype(function) for function in self.functions]
@@ -140,15 +238,9 @@ class Program:
         if len(self.image) > MOST_BYTES:
             raise Refused('the image has %d bytes; at most %d are read' % (len(self.image), MOST_BYTES))
 
-    def number(self, function):
-        function.number = len(self.functions)
-        self.functions.append(function)
-        for within in function.functions:
-            self.number(within)
-
     def prototype(self, function):
         if function.number and function.upvalues:
-            names = ', '.join(name.decode() if name else '?' for name in function.upvalue_names)
+            names = ', '.join(name.decode() for name in function.upvalue_names)
             raise Refused('line %d: a function that uses variables from outside (%s)' % (function.line, names))
         if len(function.constants) > MOST_CONSTANTS:
             raise Refused('line %d: %d constants; a function has at most %d' % (function.line, len(function.constants), MOST_CONSTANTS))
@@ -167,7 +259,7 @@ class Program:
 
 
 def offset(word):
-    n = (word >> 14) - 131071
+    n = jump(word)
     if not -32768 <= n < 32768:
         raise Refused('jumps too far')
     return n >> 8 & 255, n & 255
@@ -188,8 +280,7 @@ def counted(n, what):
 
 
 def translated(function, word):
-    name = operation(word)
-    a, b, c = word >> 6 & 255, word >> 23, word >> 14 & 511
+    name, a, b, c = decoded(word)
     if name in UNARY:
         return instruction(UNARY[name], a, b)
     if name in BINARY or name in COMPARISONS:
@@ -200,7 +291,7 @@ def translated(function, word):
             return instruction(BINARY[name], a, b, c, flags)
         return instruction(COMPARISONS[name], 1 - a, b, c, flags)
     if name == 'LOADK':
-        index = word >> 14
+        index = wide(word)
         return instruction('LoadConstant', a, index >> 8, index & 255)
     if name == 'LOADBOOL':
         return instruction('LoadBool', a, int(b != 0), int(c != 0))
@@ -219,7 +310,7 @@ def translated(function, word):
     if name == 'TESTSET':
         return instruction('TestSet', a, b, int(c == 0))
     if name == 'CLOSURE':
-        return instruction('Closure', a, function.functions[word >> 14].number)
+        return instruction('Closure', a, function.functions[wide(word)].number)
     if name == 'FORPREP':
         return instruction('NumericForPrep', a, *offset(word))
     if name == 'FORLOOP':
@@ -228,7 +319,8 @@ def translated(function, word):
 
 
 def translate(path):
-    return Program(compiled(path))
+    with open(path, 'rb') as file:
+        return Program(compiled(file.read()))
 
 
 if __name__ == '__main__':

@@ -39,7 +39,7 @@ use Rattle.machine.specs.Answers.{readAnswer, checkAnswer}
 use Rattle.machine.specs.Results.{returnedOf, isString}
 use Rattle.machine.proofs.Inside.{string-short, values-window}
 use Rattle.deletion.specs.Lines.{answerBytes, valueBytes}
-use Rattle.deletion.specs.Output.{answerLine, valueLine, valueLines, budget, shownOf, returnedLines, endedOutput, startedOutput, storedOutput, readOutput, outputOf, outputSize, AlwaysFits}
+use Rattle.deletion.specs.Output.{Given, answerLine, valueLine, valueLines, shownOf, returnedLines, endedOutput, startedOutput, storedOutput, readOutput, outputOf, outputSize, AlwaysFits}
 
 -- ---- a line has two digits for each byte, and LF
 
@@ -171,16 +171,18 @@ module _ (S : Storage) (s : State) where
 
 -- ---- the whole, whatever was refused
 
-started-fits : (S : Storage) (c : Checked) (s : State) → length (startedOutput S c s) ≤ outputSize
+started-fits : (allowed : ℕ) (S : Storage) (c : Checked) (s : State) → length (startedOutput allowed S c s) ≤ outputSize
 unfolding startedOutput endedOutput
-started-fits S checked.Accepted s = run-fits S ((runOf S budget s) .state) ((runOf S budget s) .answer)
-started-fits S (checked.Refused n q i) s = omega (arith, answer-length (checkAnswer (checked.Refused n q i)))
+started-fits allowed S checked.Accepted s = run-fits S ((runOf S allowed s) .state) ((runOf S allowed s) .answer)
+started-fits allowed S (checked.Refused n q i) s = omega (arith, answer-length (checkAnswer (checked.Refused n q i)))
 
-read-fits : (j : Judged) (S : Storage) → length (readOutput j S) ≤ outputSize
+read-fits : (g : Given) (j : Judged) (S : Storage) → length (readOutput g j S) ≤ outputSize
 unfolding readOutput storedOutput
-read-fits (judged.Accepted n) S = started-fits S ((startOf S [] [] blankState) .answer) ((startOf S [] [] blankState) .state)
-read-fits (judged.Refused n line) S = omega (arith, answer-length (readAnswer (judged.Refused n line)))
+read-fits g (judged.Accepted n) S =
+    let start = startOf S (g .argKinds) (g .argWords) blankState in
+    started-fits (g .budget) S (start .answer) (start .state)
+read-fits g (judged.Refused n line) S = omega (arith, answer-length (readAnswer (judged.Refused n line)))
 
 pub output-fits : AlwaysFits
 unfolding outputOf
-output-fits image = read-fits (readOf image blankStorage) (leftOf (readOf image blankStorage) (framesOf image) blankStorage)
+output-fits g image = read-fits g (readOf image blankStorage) (leftOf (readOf image blankStorage) (framesOf image) blankStorage)

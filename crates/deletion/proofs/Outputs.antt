@@ -2,7 +2,7 @@
 use Prim.Native.Nat.{ℕ, _≤_}
 use native.Mathlib.Omega.{arith}
 use mathlib.Core.Path.{_≡_, ap, _∙_}
-use mathlib.Core.List.{List, []}
+use mathlib.Core.List.{List}
 use native.Mathlib.Nat.{zero-add}
 use lib.ListN.{length, drop, length-append}
 use lib.Seq.{sets-eq}
@@ -22,7 +22,7 @@ use Rattle.step.specs.declared.Outcome.{Outcome}
 use Rattle.machine.specs.Answers.{readAnswer, checkAnswer}
 use Rattle.machine.specs.Results.{returnedOf}
 use Rattle.machine.specs.declared.Values.{Values}
-use Rattle.deletion.specs.Output.{answerLine, valueLines, budget, shownOf, returnedLines, endedOutput, startedOutput, storedOutput, readOutput, outputOf, outputSize, Output}
+use Rattle.deletion.specs.Output.{Given, answerLine, valueLines, shownOf, returnedLines, endedOutput, startedOutput, storedOutput, readOutput, outputOf, outputSize, Output}
 use Rattle.deletion.proofs.Fits.{answer-length, run-fits, output-fits}
 use Rattle.deletion.proofs.Puts.{lined-put}
 
@@ -45,43 +45,43 @@ module _ (S : Storage) (t : State) (o : Outcome) (v : Values) (e : v ≡ returne
         (room-then out 0 (answerLine o) (returnedLines S t o (returnedOf S t)) (omega (arith, run-fits S t o)) out' at p)
 
     pub run-put :
-        {out'' : List ℕ} {r : ℕ} (s : State) → ended o t ≡ runOf S budget s → Put out' at values r out''
-        → Put out 0 (endedOutput S (runOf S budget s)) r out''
+        {out'' : List ℕ} {r : ℕ} (allowed : ℕ) (s : State) → ended o t ≡ runOf S allowed s → Put out' at values r out''
+        → Put out 0 (endedOutput S (runOf S allowed s)) r out''
     unfolding endedOutput returnedLines
-    run-put s ran q = rw (← ran) (put-then p (rw (f, e) at q))
+    run-put allowed s ran q = rw (← ran) (put-then p (rw (f, e) at q))
 
--- ---- a start without arguments
+-- ---- a start
 
-module _ (S : Storage) (c : Checked) (s : State) (b : started c s ≡ startOf S [] [] blankState) where
-  pub start-refused : (n q i : ℕ) → c ≡ checked.Refused n q i → (o : Outcome) → o ≡ checkAnswer c → answerLine o ≡ storedOutput S
+module _ (g : Given) (S : Storage) (c : Checked) (s : State) (b : started c s ≡ startOf S (g .argKinds) (g .argWords) blankState) where
+  pub start-refused : (n q i : ℕ) → c ≡ checked.Refused n q i → (o : Outcome) → o ≡ checkAnswer c → answerLine o ≡ storedOutput g S
   unfolding storedOutput startedOutput
   start-refused n q i e o f = rw (← b, f, e)
 
-  pub start-run : c ≡ checked.Accepted → endedOutput S (runOf S budget s) ≡ storedOutput S
+  pub start-run : c ≡ checked.Accepted → endedOutput S (runOf S (g .budget) s) ≡ storedOutput g S
   unfolding storedOutput startedOutput
   start-run e = rw (← b, e)
 
 -- ---- reading
 
-module _ (image : List ℕ) (j : Judged) (S : Storage) (r : Read image j blankStorage S) where
-  pub read-refused : (n line : ℕ) → j ≡ judged.Refused n line → (o : Outcome) → o ≡ readAnswer j → answerLine o ≡ outputOf image
+module _ (g : Given) (image : List ℕ) (j : Judged) (S : Storage) (r : Read image j blankStorage S) where
+  pub read-refused : (n line : ℕ) → j ≡ judged.Refused n line → (o : Outcome) → o ≡ readAnswer j → answerLine o ≡ outputOf g image
   unfolding outputOf readOutput
   read-refused n line e o f = rw (← r .answer, f, e)
 
-  pub read-stored : (n : ℕ) → j ≡ judged.Accepted n → storedOutput S ≡ outputOf image
+  pub read-stored : (n : ℕ) → j ≡ judged.Accepted n → storedOutput g S ≡ outputOf g image
   unfolding outputOf readOutput
   read-stored n e = rw (r .left, ← r .answer, e)
 
 -- ---- the whole
 
-module _ {image out out' : List ℕ} {r : ℕ} where
-  pub whole : outputSize ≤ length out → Put out 0 (outputOf image) r out' → Output image r out out'
+module _ {g : Given} {image out out' : List ℕ} {r : ℕ} where
+  pub whole : outputSize ≤ length out → Put out 0 (outputOf g image) r out' → Output g image r out out'
   whole h p =
       record {
-        count = p .next ∙ zero-add (length (outputOf image));
-        left = p .left ∙ sets-eq (outputOf image) out 0 (omega (arith, output-fits image)) ∙ rw (zero-add (length (outputOf image)));
+        count = p .next ∙ zero-add (length (outputOf g image));
+        left = p .left ∙ sets-eq (outputOf g image) out 0 (omega (arith, output-fits g image)) ∙ rw (zero-add (length (outputOf g image)));
       }
 
   -- it ends within the output
-  pub whole-within : Output image r out out' → r ≤ length out'
-  whole-within p = omega (arith, p .count, ap length (p .left), length-append (outputOf image) (drop (length (outputOf image)) out))
+  pub whole-within : Output g image r out out' → r ≤ length out'
+  whole-within p = omega (arith, p .count, ap length (p .left), length-append (outputOf g image) (drop (length (outputOf g image)) out))

@@ -1,6 +1,6 @@
--- All that the program writes, from the bytes that it reads. Document 01: "The program reads an image from standard input, runs it without arguments on budget
--- 1,000,000 and writes `f0`, answer (1 byte), count (4), prototype (1), instruction (2; for reading, prototype 0 and the line), then each returned value as a
--- `b0` line, a function as tag 05 and its prototype." Assumes nothing.
+-- All that the program writes, from the bytes that it reads and from what the run is given. Document 01: "The program reads an image from standard input, runs
+-- it without arguments on budget 1,000,000 and writes `f0`, answer (1 byte), count (4), prototype (1), instruction (2; for reading, prototype 0 and the line),
+-- then each returned value as a `b0` line, a function as tag 05 and its prototype." With a budget and arguments of its caller's it writes the same. Assumes nothing.
 use Prim.Native.Nat.{ℕ, zero, suc, _+_, _≤_}
 use mathlib.Core.Path.{_≡_}
 use mathlib.Core.Bool.{cond}
@@ -41,10 +41,21 @@ valueLines constWords texts kinds words zero r = []
 valueLines constWords texts kinds words (suc n) r =
     valueLine constWords texts kinds words r ++ valueLines constWords texts kinds words n (r + 1)
 
--- ---- "runs it .. on budget 1,000,000 and writes" the answer, "then each returned value"
+-- ---- what a run is given: a budget, and the kinds and words of its arguments
 
-abbrev pub budget : ℕ
-budget = 1_000_000
+pub record Given : Type 0 where
+  pub budget : ℕ
+  pub argKinds : List ℕ
+  pub argWords : List ℕ
+
+abbrev pub given : ℕ → List ℕ → List ℕ → Given
+given n k w = record { budget = n; argKinds = k; argWords = w }
+
+-- "without arguments on budget 1,000,000"
+abbrev pub plainly : Given
+plainly = given 1_000_000 [] []
+
+-- ---- "runs it .. and writes" the answer, "then each returned value"
 
 -- how many values are written: those that were returned after 0, none after any other answer
 unfoldable pub shownOf : Outcome → Values → ℕ
@@ -56,23 +67,25 @@ returnedLines S s o v = valueLines (S .words) (S .texts) (s .kinds) (s .words) (
 unfoldable pub endedOutput : Storage → Ended → List ℕ
 endedOutput S e = answerLine (e .answer) ++ returnedLines S (e .state) (e .answer) (returnedOf S (e .state))
 
--- ---- started "without arguments", in a state of the published sizes; where the start is refused, its answer alone
+-- ---- started with its arguments, in a state of the published sizes; where the start is refused, its answer alone
 
-unfoldable pub startedOutput : Storage → Checked → State → List ℕ
-startedOutput S checked.Accepted s = endedOutput S (runOf S budget s)
-startedOutput S (checked.Refused number q i) s = answerLine (checkAnswer (checked.Refused number q i))
+unfoldable pub startedOutput : ℕ → Storage → Checked → State → List ℕ
+startedOutput allowed S checked.Accepted s = endedOutput S (runOf S allowed s)
+startedOutput allowed S (checked.Refused number q i) s = answerLine (checkAnswer (checked.Refused number q i))
 
-unfoldable pub storedOutput : Storage → List ℕ
-storedOutput S = startedOutput S ((startOf S [] [] blankState) .answer) ((startOf S [] [] blankState) .state)
+unfoldable pub storedOutput : Given → Storage → List ℕ
+storedOutput g S =
+    let start = startOf S (g .argKinds) (g .argWords) blankState in
+    startedOutput (g .budget) S (start .answer) (start .state)
 
 -- ---- "reads an image", into storage of the published sizes; where that is refused, its answer alone
 
-unfoldable pub readOutput : Judged → Storage → List ℕ
-readOutput (judged.Accepted n) S = storedOutput S
-readOutput (judged.Refused number line) S = answerLine (readAnswer (judged.Refused number line))
+unfoldable pub readOutput : Given → Judged → Storage → List ℕ
+readOutput g (judged.Accepted n) S = storedOutput g S
+readOutput g (judged.Refused number line) S = answerLine (readAnswer (judged.Refused number line))
 
-unfoldable pub outputOf : List ℕ → List ℕ
-outputOf image = readOutput (readOf image blankStorage) (leftOf (readOf image blankStorage) (framesOf image) blankStorage)
+unfoldable pub outputOf : Given → List ℕ → List ℕ
+outputOf g image = readOutput g (readOf image blankStorage) (leftOf (readOf image blankStorage) (framesOf image) blankStorage)
 
 -- ---- in the lent output
 
@@ -82,9 +95,9 @@ outputSize = 33936
 
 -- proofs/Fits shows it
 abbrev pub AlwaysFits : Type 0
-AlwaysFits = (image : List ℕ) → length (outputOf image) ≤ outputSize
+AlwaysFits = (g : Given) (image : List ℕ) → length (outputOf g image) ≤ outputSize
 
 -- all that the program writes for an image: r bytes, at the front of the output; all beyond is unchanged
-pub record Output (image : List ℕ) (r : ℕ) (out out' : List ℕ) : Type 0 where
-  pub count : r ≡ length (outputOf image)
-  pub left : out' ≡ laid (outputOf image) out
+pub record Output (g : Given) (image : List ℕ) (r : ℕ) (out out' : List ℕ) : Type 0 where
+  pub count : r ≡ length (outputOf g image)
+  pub left : out' ≡ laid (outputOf g image) out

@@ -1,5 +1,5 @@
-// All that the program writes, from the bytes of an image: it is read, started without arguments and run on a budget of
-// 1,000,000; then the answer's line is written, and after 0 a line for each returned value.
+// All that the program writes, from the bytes of an image: it is read, started and run, without arguments and on a budget
+// of 1,000,000 where nothing else is given; then the answer's line is written, and after 0 a line for each returned value.
 use crate::lines;
 use checker::Checked;
 use image::Judged;
@@ -12,8 +12,9 @@ ghost use Rattle.storage.specs.Layout.{storageIn};
 ghost use Rattle.state.specs.States.{stateIn};
 ghost use Rattle.step.specs.Run.{runOf};
 ghost use Rattle.writer.specs.Putting.{Room, Put};
-ghost use Rattle.deletion.specs.Output.{valueLine, valueLines, budget, shownOf, endedOutput, storedOutput, outputSize, Output};
+ghost use Rattle.deletion.specs.Output.{given, plainly, valueLine, valueLines, shownOf, endedOutput, storedOutput, outputSize, Output};
 
+// Document 01's.
 const BUDGET: u32 = 1_000_000;
 
 // How long an output has to be for any image: the answer's line, and 255 values, each a string of 64 bytes at most.
@@ -87,6 +88,7 @@ fn put_run(
     frames: &mut [u64],
     kinds: &mut [u8],
     words: &mut [u64],
+    budget: u32,
     out: &mut [u8],
 ) -> usize
     requires { ⌜ outputSize ≤ length (now out) ⌝ }
@@ -101,7 +103,7 @@ fn put_run(
         frames,
         kinds,
         words,
-        BUDGET,
+        budget,
     );
     let at = lines::answer_line(o, out);
     let r = machine::returned(
@@ -118,23 +120,24 @@ fn put_run(
     put_values(const_words, texts, kinds, words, r.first, n, out, at)
 }
 
-// Starts the image that was read, without arguments, and runs it.
+// Starts the image that was read, with these arguments, and runs it.
 fn put_stored(
     table: &[u64],
     code: &[u64],
     const_kinds: &[u8],
     const_words: &[u64],
     texts: &[u8],
+    budget: u32,
+    arg_kinds: &[u8],
+    arg_words: &[u64],
     out: &mut [u8],
 ) -> usize
     requires { ⌜ outputSize ≤ length (now out) ⌝ }
-    ensures { λ r. ⌜ Put (now (out .entry)) 0 (storedOutput (storageIn table code «const_kinds» «const_words» texts)) r (now (out .exit)) ⌝ }
+    ensures { λ r. ⌜ Put (now (out .entry)) 0 (storedOutput (given budget (now («arg_kinds» .entry)) (now («arg_words» .entry))) (storageIn table code «const_kinds» «const_words» texts)) r (now (out .exit)) ⌝ }
 {
     let mut frames = [0u64; state::FRAMES];
     let mut kinds = [0u8; state::REGISTERS];
     let mut words = [0u64; state::REGISTERS];
-    let no_kinds = [0u8; 0];
-    let no_words = [0u64; 0];
     let c = machine::start(
         table,
         code,
@@ -144,8 +147,8 @@ fn put_stored(
         &mut frames,
         &mut kinds,
         &mut words,
-        &no_kinds,
-        &no_words,
+        arg_kinds,
+        arg_words,
     );
     if let Checked::Refused(_, _, _) = c {
         let n = lines::answer_line(machine::check_answer(c), out);
@@ -160,14 +163,21 @@ fn put_stored(
         &mut frames,
         &mut kinds,
         &mut words,
+        budget,
         out,
     )
 }
 
 // ---- the image
 
-pub(crate) fn output(image: &[u8], out: &mut [u8; OUTPUT]) -> usize
-    ensures { λ r. ⌜ Output (now (image .entry)) r (now (out .entry)) (now (out .exit)) ⌝ }
+pub(crate) fn output_given(
+    image: &[u8],
+    budget: u32,
+    arg_kinds: &[u8],
+    arg_words: &[u64],
+    out: &mut [u8; OUTPUT],
+) -> usize
+    ensures { λ r. ⌜ Output (given budget (now («arg_kinds» .entry)) (now («arg_words» .entry))) (now (image .entry)) r (now (out .entry)) (now (out .exit)) ⌝ }
 {
     let mut table = [0u64; storage::TABLE];
     let mut code = [0u64; storage::CODE];
@@ -186,5 +196,24 @@ pub(crate) fn output(image: &[u8], out: &mut [u8; OUTPUT]) -> usize
         let size = lines::answer_line(machine::read_answer(j), out);
         return size;
     }
-    put_stored(&table, &code, &const_kinds, &const_words, &texts, out)
+    put_stored(
+        &table,
+        &code,
+        &const_kinds,
+        &const_words,
+        &texts,
+        budget,
+        arg_kinds,
+        arg_words,
+        out,
+    )
+}
+
+// What document 01's program writes.
+pub(crate) fn output(image: &[u8], out: &mut [u8; OUTPUT]) -> usize
+    ensures { λ r. ⌜ Output plainly (now (image .entry)) r (now (out .entry)) (now (out .exit)) ⌝ }
+{
+    let no_kinds = [0u8; 0];
+    let no_words = [0u64; 0];
+    output_given(image, BUDGET, &no_kinds, &no_words, out)
 }

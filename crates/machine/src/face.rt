@@ -9,7 +9,7 @@ ghost use Prim.Native.Nat.{_%_, _^_};
 ghost use lib.ListN.{set};
 ghost use Rattle.storage.specs.Layout.{storageIn, storageOut};
 ghost use Rattle.state.specs.States.{stateIn, stateOut};
-ghost use Rattle.machine.specs.Face.{said, saying, saying5, saying6, leaving, bytesTold, textAnswer, dmRead, dmWrite, dmCheck, dmStart, dmRun, dmReturned, dmText};
+ghost use Rattle.machine.specs.Face.{said, saying, saying5, saying6, leaving, bytesTold, textAnswer, version, dmRead, dmWrite, dmCheck, dmStart, dmRun, dmReturned, dmText};
 
 // How long `answer` has to be.
 pub const ANSWER: usize = 8;
@@ -60,6 +60,13 @@ fn tell6(answer: &mut [u32], o: Outcome, x: usize, y: usize) -> u32
 }
 
 // ---- the functions
+
+#[no_mangle]
+pub extern "C" fn dm_version() -> u32
+    ensures { λ r. ⌜ r ≡ version ⌝ }
+{
+    200
+}
 
 #[no_mangle]
 pub extern "C" fn dm_read(

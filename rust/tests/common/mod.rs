@@ -3,7 +3,9 @@
 
 use deletion_machine::{Answer, Image, Machine, Operand, Outcome, Place, StartError, Value};
 use std::fmt::Write;
+use std::io;
 use std::path::PathBuf;
+use std::sync::Once;
 
 /// The budget of document 01's program.
 pub const BUDGET: u32 = 1_000_000;
@@ -35,13 +37,40 @@ pub fn integer(i: i64) -> String {
     format!("b002{i:016x}")
 }
 
-/// The rules of the repository's `examples`: name, image, and the lines that the program writes for it.
+/// A file of the repository, by its path there.
+pub fn repository(path: &str) -> PathBuf {
+    PathBuf::from(concat!(env!("CARGO_MANIFEST_DIR"), "/..")).join(path)
+}
+
+/// What such a file has in it.
+pub fn file(path: &str) -> Vec<u8> {
+    let path = repository(path);
+    std::fs::read(&path).unwrap_or_else(|error| panic!("{}: {error}", path.display()))
+}
+
+/// A C program that was built over the same library, from the folder that DELETION_MACHINE_C names. `tools/hosts` builds them
+/// there. Without it, it is said once that this part of the tests is left out.
+pub fn c_program(name: &str) -> Option<PathBuf> {
+    static SAID: Once = Once::new();
+    let folder = std::env::var_os("DELETION_MACHINE_C");
+    if folder.is_none() {
+        SAID.call_once(|| {
+            // not by a macro, whose lines are seen of failing tests alone
+            let note = b"nothing is compared with C: DELETION_MACHINE_C is not set (tools/hosts sets it)\n";
+            let _ = io::Write::write_all(&mut io::stderr(), note);
+        });
+    }
+    folder.map(|folder| PathBuf::from(folder).join(name))
+}
+
+/// A file of the repository's `examples`.
+pub fn example(name: &str) -> Vec<u8> {
+    let path = PathBuf::from(concat!(env!("CARGO_MANIFEST_DIR"), "/../examples")).join(name);
+    std::fs::read(&path).unwrap_or_else(|error| panic!("{}: {error}", path.display()))
+}
+
+/// The rules there that take no arguments: name, image, and the lines that the program writes for it.
 pub fn rules() -> Vec<(&'static str, Vec<u8>, String)> {
-    let folder = PathBuf::from(concat!(env!("CARGO_MANIFEST_DIR"), "/../examples"));
-    let file = |name: String| {
-        let path = folder.join(name);
-        std::fs::read(&path).unwrap_or_else(|error| panic!("{}: {error}", path.display()))
-    };
     [
         "seven-years",
         "by-class",
@@ -51,8 +80,8 @@ pub fn rules() -> Vec<(&'static str, Vec<u8>, String)> {
     ]
     .into_iter()
     .map(|name| {
-        let result = String::from_utf8(file(format!("{name}.result"))).unwrap();
-        (name, file(format!("{name}.image")), result)
+        let result = String::from_utf8(example(&format!("{name}.result"))).unwrap();
+        (name, example(&format!("{name}.image")), result)
     })
     .collect()
 }
@@ -92,13 +121,14 @@ pub fn b0(value: &Value<'_>) -> String {
             }
         }
         Value::Function(prototype) => write!(line, "05{prototype:02x}").unwrap(),
+        other => panic!("the program has no line for {other}"),
     }
     line.push('\n');
     line
 }
 
 /// What the program writes for a machine's answer.
-pub fn output(answer: &Answer, machine: &Machine<'_>) -> String {
+pub fn output<I: AsRef<Image>>(answer: &Answer, machine: &Machine<I>) -> String {
     let outcome = answer.outcome;
     let mut out = f0(
         outcome.number(),
@@ -121,7 +151,7 @@ pub fn program(text: &[u8]) -> String {
     let mut machine = match Machine::start(&image, &[]) {
         Ok(machine) => machine,
         Err(StartError::Check(error)) => return f0(error.number(), 0, error.place(), None),
-        Err(StartError::Arguments) => unreachable!("there are none"),
+        Err(other) => unreachable!("no arguments, and {other}"),
     };
     let answer = machine.run(BUDGET);
     output(&answer, &machine)

@@ -37,7 +37,7 @@ returns c =
     let answer = answered returned in
     let run = ran answer in
     let long = entry run .pre in
-    run-put _ _ _ _ (returned .returned .ensures) _ (shown .shown .ensures) (answer-put _ long (answer .answer-line .ensures)) _ (run .run .ensures)
+    run-put _ _ _ _ (returned .returned .ensures) _ (shown .shown .ensures) (answer-put _ long (answer .answer-line .ensures)) _ _ (run .run .ensures)
     (put .put-values .ensures)
 
 pub put-run-spec : {M : Type 1} → statement M

@@ -12,7 +12,7 @@ returns c =
     let told : tie.After-enum-told = search in
     let answer : tie.After-check-answer = search in
     let put : tie.After-answer-line = search in
-    put-as (start-refused _ _ _ (start .start .ensures) _ _ _ (told .enum-told .given .1) _ (answer .check-answer .ensures))
+    put-as (start-refused _ _ _ _ (start .start .ensures) _ _ _ (told .enum-told .given .1) _ (answer .check-answer .ensures))
     (answer-put _ (entry .pre) (put .answer-line .ensures))
 
 put-run-requires : tie.Need-put-run-requires
@@ -26,13 +26,13 @@ returns-2 c =
     let start : tie.After-start = search in
     let told : tie.After-enum-told2 = search in
     let put : tie.After-put-run = search in
-    put-as (start-run _ _ _ (start .start .ensures) (told .enum-told2 .given .1)) (put .put-run .ensures)
+    put-as (start-run _ _ _ _ (start .start .ensures) (told .enum-told2 .given .1)) (put .put-run .ensures)
 
 pub put-stored-spec : {M : Type 1} → statement M
 put-stored-spec =
     tie.close
     (tie.spec
-    (λ c. search needs) (λ c. search needs) (λ c. search needs) (λ c. search needs) (λ c. search needs)
+    (λ c. search needs) (λ c. search needs) (λ c. search needs)
     (λ c κs. search needs) (λ c. search needs) (λ c κs. search needs) (λ c κs. search needs) (λ c. search needs)
     returns
     (λ c. search needs) (λ c. search needs) (λ c. search needs) (λ c. search needs)
