@@ -2,7 +2,7 @@
 
 mod common;
 
-use common::{at, example, image, rules, text, BUDGET};
+use common::{at, file, image, rules, text, BUDGET};
 use deletion_machine::{CheckError, Image, Machine, Outcome, StartError, Value, ARGUMENTS};
 
 /// What luac and lua2image make of it, with the date in a parameter:
@@ -57,7 +57,7 @@ fn the_answer_turns_on_the_date() {
 /// examples/one-record.lua: a record that was closed on 31 December 2017, day 17,531, is kept to 31 December 2024, day 20,088.
 #[test]
 fn an_example_that_is_told_its_inputs() {
-    let image = Image::read(&example("one-record.image")).unwrap();
+    let image = Image::read(&file("examples/one-record.image")).unwrap();
     assert_eq!(image.parameters(), 3);
     for (today, hold, decision) in [
         (20_088, false, &b"keep"[..]),

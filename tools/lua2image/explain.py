@@ -33,6 +33,7 @@ OF_CALLS = {
     TOO_DEEP: 'more than 16 calls inside one another, the main program counted',
     TOO_WIDE: 'a call that would pass 2,048 registers in all running functions',
 }
+LOOPS = ('NumericForPrep', 'NumericForLoop')
 # luac turns a > b into b < a: what the machine names is then on the other side in the source.
 TURNED = {'Less': '>', 'LessEq': '>='}
 
@@ -126,24 +127,36 @@ def unfit(name):
     return "isn't a number"
 
 
-def constant_named(five, operand, constants):
-    """The operand between commas where it is a constant."""
-    flag, k = {LEFT: (1, five.b), RIGHT: (2, five.c)}.get(operand, (0, 0))
-    return ', %s,' % value(constants[k]) if five.flags & flag else ''
+def variable(function, p, register):
+    """The local that owns a register at instruction p, as the source names it; None where none does, or where there is no source."""
+    in_scope = function.in_scope(p) if function else []
+    return function.locals[in_scope[register]][0].decode('utf-8', 'replace') if register < len(in_scope) else None
 
 
-def error(result, five, constants):
-    """A Lua error in words; None where this instruction can't have raised it."""
+def shown(five, p, operand, constants, function):
+    """The operand where it is a constant or a variable of the source; '' where it is neither. A loop's controls are copies, which have no names."""
+    if OPERATIONS[five.operation] in LOOPS:
+        return ''
+    flag, number = {LEFT: (1, five.b), RIGHT: (2, five.c)}[operand]
+    if five.flags & flag:
+        return value(constants[number])
+    name = variable(function, p, number)
+    return '`%s`' % name if name else ''
+
+
+def error(result, five, constants, function):
+    """A Lua error in words; None where this instruction can't have raised it. function: luac's, where there is a source."""
     number, operand = result.number, result.operand
     name = OPERATIONS[five.operation]
     if name == 'Call' and operand == 0:
         return OF_CALLS.get(number)
-    named = operands(name).get(operand)
-    if named and number == UNFIT_OPERAND[name]:
-        return named + constant_named(five, operand, constants) + ' ' + unfit(name)
-    if operand == RIGHT and number == ZERO_DIVISOR.get(name):
-        return named + ' is zero'
-    return None
+    if operand not in operands(name):
+        return None
+    it = shown(five, result.instruction, operand, constants, function)
+    named = operands(name)[operand] + (', %s,' % it if it else '')
+    if number == UNFIT_OPERAND[name]:
+        return '%s %s' % (named, unfit(name))
+    return named + ' is zero' if operand == RIGHT and number == ZERO_DIVISOR.get(name) else None
 
 
 def counted(n, what):
@@ -173,7 +186,7 @@ def how_it_ended(result, values, prototypes, functions):
         return '\n'.join([end, *(returned(at, data, prototypes, functions) for at, data in enumerate(values, 2))])
     if number == RUNNING and operand == 0 and not values:
         return 'the budget is used up after %s; next is %s' % (counted(count, 'instruction'), where)
-    words = error(result, five, constants)
+    words = error(result, five, constants, functions[q] if functions else None)
     if words is None or values:
         raise NotExplained(1, 'answer %d at place %d:%d, operand %d, with %s, is none that this image can have: it is for another one'
                            % (number, q, p, operand, counted(len(values), 'value')))

@@ -36,7 +36,7 @@ REFUSED = {
 INSTEAD = {
     'math.floor': "write 'a // b', or 'x // 1'",
     'math.ceil': "write '-(-x // 1)'",
-    'math.fmod': "write 'a % b'",
+    'math.fmod': "write 'a % b', which has the sign of b",
     'math.tointeger': "write 'x | 0'",
     'math.huge': 'write 1e999',
     'math.maxinteger': 'write 0x7fffffffffffffff',

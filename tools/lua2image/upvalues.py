@@ -38,7 +38,7 @@ def makers(functions):
 
 def owner(function, p, r):
     """The number of the local that owns register r when the CLOSURE at p takes it; None where none does."""
-    in_scope = [k for k, (_, start, end) in enumerate(function.locals) if start <= p < end]
+    in_scope = function.in_scope(p)
     if r < len(in_scope):
         return in_scope[r]
     # `local function f` is in scope of its own body, but by the debug information only from the instruction after its CLOSURE on

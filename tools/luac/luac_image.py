@@ -117,6 +117,10 @@ class Function:
         self.upvalue_names = chunk.list(chunk.string)
         self.demand_whole()
 
+    def in_scope(self, p):
+        """The numbers of the locals in scope at instruction p: they own the registers from 0 on, in this order."""
+        return [k for k, (_, start, end) in enumerate(self.locals) if start <= p < end]
+
     def demand_whole(self):
         """Refuses a chunk that isn't luac's: what follows counts on what instructions name to be there, and on the lines and names."""
         if not self.code or len(self.lines) != len(self.code) or len(self.upvalue_names) != len(self.upvalues):

@@ -63,13 +63,7 @@ pub fn c_program(name: &str) -> Option<PathBuf> {
     folder.map(|folder| PathBuf::from(folder).join(name))
 }
 
-/// A file of the repository's `examples`.
-pub fn example(name: &str) -> Vec<u8> {
-    let path = PathBuf::from(concat!(env!("CARGO_MANIFEST_DIR"), "/../examples")).join(name);
-    std::fs::read(&path).unwrap_or_else(|error| panic!("{}: {error}", path.display()))
-}
-
-/// The rules there that take no arguments: name, image, and the lines that the program writes for it.
+/// The rules of the repository's `examples` that take no arguments: name, image, and the lines that the program writes for it.
 pub fn rules() -> Vec<(&'static str, Vec<u8>, String)> {
     [
         "seven-years",
@@ -80,8 +74,9 @@ pub fn rules() -> Vec<(&'static str, Vec<u8>, String)> {
     ]
     .into_iter()
     .map(|name| {
-        let result = String::from_utf8(example(&format!("{name}.result"))).unwrap();
-        (name, example(&format!("{name}.image")), result)
+        let result = file(&format!("examples/{name}.result"));
+        let image = file(&format!("examples/{name}.image"));
+        (name, image, String::from_utf8(result).unwrap())
     })
     .collect()
 }
