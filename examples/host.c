@@ -166,5 +166,9 @@ int main(int argc, char **argv)
     dm_returned(DM_STORAGE(&storage), DM_STATE(&state), answer, DM_ANSWER);
     for (i = 0; i < answer[5]; i++)
         print_value(state.kinds[answer[4] + i], state.words[answer[4] + i]);
+    if (fflush(stdout) != 0 || ferror(stdout)) { /* a list that is cut off would be a wrong one */
+        fprintf(stderr, "what it returned can't be written\n");
+        return 2;
+    }
     return 0;
 }

@@ -60,6 +60,8 @@ static int stands(void)
     printf("prototype %" PRIu32 ", instruction %" PRIu32 ": %s\n", answer[2], answer[3], dm_message(answer[0]));
     for (i = 0; i < answer[5]; i++)
         printf("%d %016" PRIx64 "\n", state.kinds[answer[4] + i], state.words[answer[4] + i]);
+    if (fflush(stdout) != 0 || ferror(stdout))
+        return refused("standard output", "can't be written");
     return answer[0] == DM_DONE || answer[0] == DM_BUDGET ? 0 : 1;
 }
 

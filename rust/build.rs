@@ -12,11 +12,15 @@ fn main() {
     println!("cargo:rerun-if-changed=build.rs");
     println!("cargo:rerun-if-env-changed=DELETION_MACHINE_LIB");
     let archive = match env::var_os("DELETION_MACHINE_LIB") {
-        Some(path) => PathBuf::from(path),
-        None => made(),
+        Some(path) if !path.is_empty() => PathBuf::from(path),
+        _ => made(),
     };
     if !archive.is_file() {
-        panic!("there is no static library at {}", archive.display());
+        panic!(
+            "there is no static library at {}, seen from {}",
+            archive.display(),
+            env!("CARGO_MANIFEST_DIR")
+        );
     }
     println!("cargo:rerun-if-changed={}", archive.display());
     // The linker takes libNAME.a for NAME, from the folder that the archive is in.

@@ -26,6 +26,7 @@ impl Image {
     /// assert_eq!(error.number(), 1);
     /// ```
     pub fn read(text: &[u8]) -> Result<Image, ReadError> {
+        crate::demand_version();
         let mut storage = Storage::empty();
         let told = ffi::read(text, &mut storage);
         let line = told.instruction;

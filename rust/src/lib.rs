@@ -73,6 +73,8 @@ mod storage;
 mod stored;
 mod value;
 
+use std::sync::Once;
+
 pub use image::{CheckError, Image, Place, ReadError, IMAGE_BYTES};
 pub use machine::{
     Answer, LuaError, LuaErrorKind, Machine, Operand, Outcome, StartError, ARGUMENTS,
@@ -81,8 +83,8 @@ pub use state::State;
 pub use stored::{StateError, STATE_BYTES};
 pub use value::Value;
 
-/// The version of the static library that is linked: major, minor and patch. This package was written for the one with its
-/// own version.
+/// The version of the static library that is linked: major, minor and patch. This package is for the one with its own version,
+/// and [`Image::read`] panics where it is another.
 ///
 /// ```
 /// let (major, minor, patch) = deletion_machine::library_version();
@@ -92,6 +94,20 @@ pub use value::Value;
 pub fn library_version() -> (u32, u32, u32) {
     let version = ffi::version();
     (version / 10_000, version / 100 % 100, version % 100)
+}
+
+/// Sees, once, that the linked library has this package's version: another one's answers may mean something else.
+fn demand_version() {
+    static SEEN: Once = Once::new();
+    SEEN.call_once(|| {
+        let (major, minor, patch) = library_version();
+        let linked = format!("{major}.{minor}.{patch}");
+        let own = env!("CARGO_PKG_VERSION");
+        assert_eq!(
+            linked, own,
+            "the static library that is linked (left) is not the one that this version of deletion-machine (right) is for"
+        );
+    });
 }
 
 /// Has the tests try the example there.

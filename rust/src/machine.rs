@@ -204,8 +204,14 @@ impl<I: AsRef<Image>> Machine<I> {
 /// A line: where the machine stands, and how.
 impl<I: AsRef<Image>> fmt::Debug for Machine<I> {
     fn fmt(&self, f: &mut fmt::Formatter<'_>) -> fmt::Result {
-        let Answer { outcome, place, .. } = self.standing();
-        write!(f, "Machine {{ {place}: {outcome} }}")
+        match self.standing() {
+            Answer {
+                outcome: Outcome::Paused,
+                place,
+                ..
+            } => write!(f, "Machine {{ {place}: running }}"),
+            Answer { outcome, place, .. } => write!(f, "Machine {{ {place}: {outcome} }}"),
+        }
     }
 }
 

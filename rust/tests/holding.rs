@@ -110,7 +110,7 @@ fn a_machine_shows_itself_in_a_line() {
     ]);
     let mut machine = Machine::start(&image, &[]).unwrap();
     machine.run(1);
-    let paused = "Machine { prototype 0, instruction 1: paused, its budget is used }";
+    let paused = "Machine { prototype 0, instruction 1: running }";
     assert_eq!(format!("{machine:?}"), paused);
     assert_eq!(format!("{machine:#?}"), paused);
     machine.run(1);

@@ -6,7 +6,9 @@ The answer has to be one that this image can have: else NotExplained."""
 import struct
 from collections import namedtuple
 
+from flow import ENTRY, Flow
 from listing import SIGNS, instruction_line, value
+from luac_image import decoded as decoded_word
 from oracle.answers import (BAD_ARGUMENTS, BAD_END, BAD_FRAME, BAD_LINE, DONE, NO_CONSTANT, NO_FUNCTION, NO_PROTOTYPE, NO_REGISTER, NO_TARGET,
                             NOT_CARRIED, RUNNING, STRAY_BYTE, TOO_DEEP, TOO_MANY, TOO_WIDE, UNFIT_OPERAND, ZERO_DIVISOR)
 from oracle.image import CONSTANT, LINE, PAYLOAD, Refused, parse
@@ -127,10 +129,26 @@ def unfit(name):
     return "isn't a number"
 
 
+def local(function, p, register):
+    """The local that owns a register at instruction p; None where none does."""
+    in_scope = function.in_scope(p)
+    return function.locals[in_scope[register]][0] if register < len(in_scope) else None
+
+
+def origin(function, p, register):
+    """The variable from which the value of a register comes that none owns at instruction p; None where that isn't one alone."""
+    found = Flow(function).definitions(p, register)
+    if len(found) != 1 or ENTRY in found:
+        return None
+    place, = found
+    name, _, b, _ = decoded_word(function.code[place])
+    return function.put_in.get(place) or (local(function, place, b) if name == 'MOVE' else None)
+
+
 def variable(function, p, register):
-    """The local that owns a register at instruction p, as the source names it; None where none does, or where there is no source."""
-    in_scope = function.in_scope(p) if function else []
-    return function.locals[in_scope[register]][0].decode('utf-8', 'replace') if register < len(in_scope) else None
+    """What the source calls the value of a register at instruction p, between backquotes; '' where it has no name, or where there is no source."""
+    name = function and (local(function, p, register) or origin(function, p, register))
+    return '`%s`' % name.decode('utf-8', 'replace') if name else ''
 
 
 def shown(five, p, operand, constants, function):
@@ -140,8 +158,7 @@ def shown(five, p, operand, constants, function):
     flag, number = {LEFT: (1, five.b), RIGHT: (2, five.c)}[operand]
     if five.flags & flag:
         return value(constants[number])
-    name = variable(function, p, number)
-    return '`%s`' % name if name else ''
+    return variable(function, p, number)
 
 
 def error(result, five, constants, function):
@@ -149,7 +166,8 @@ def error(result, five, constants, function):
     number, operand = result.number, result.operand
     name = OPERATIONS[five.operation]
     if name == 'Call' and operand == 0:
-        return OF_CALLS.get(number)
+        called = variable(function, result.instruction, five.a) if number == NO_FUNCTION else ''
+        return ', '.join(filter(None, [OF_CALLS.get(number), called])) or None
     if operand not in operands(name):
         return None
     it = shown(five, result.instruction, operand, constants, function)

@@ -24,7 +24,13 @@ def value(constant):
         return str(signed(word))
     if tag == NUMBER:
         return repr(double(word))
-    return '"%s"' % ''.join(chr(byte) if 32 <= byte < 127 and byte not in b'"\\' else '\\%03d' % byte for byte in constant[1:])
+    return '"%s"' % ''.join(character if character.isprintable() and character not in '"\\' else escaped(character)
+                            for character in constant[1:].decode('utf-8', 'surrogateescape'))
+
+
+def escaped(character):
+    """Its bytes, each by its number; a byte that is no UTF-8 too."""
+    return ''.join('\\%03d' % byte for byte in character.encode('utf-8', 'surrogateescape'))
 
 
 def registers(first, count):

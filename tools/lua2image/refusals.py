@@ -34,8 +34,8 @@ REFUSED = {
 
 # What to do instead of using the library: by the whole name, else by its first part. What the machine can't know comes from outside.
 INSTEAD = {
-    'math.floor': "write 'a // b', or 'x // 1'",
-    'math.ceil': "write '-(-x // 1)'",
+    'math.floor': "write 'a // b', or 'x // 1 | 0'",
+    'math.ceil': "write '-(-x // 1) | 0'",
     'math.fmod': "write 'a % b', which has the sign of b",
     'math.tointeger': "write 'x | 0'",
     'math.huge': 'write 1e999',

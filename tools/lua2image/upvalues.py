@@ -144,6 +144,8 @@ def put_in(functions, known):
              for function in functions for p, word in enumerate(function.code) if operation(word) == 'GETUPVAL']
     for function, p, held in reads:
         if held is not None:
-            function.code[p] = loading(function, decoded(function.code[p])[1], held)
+            _, a, u, _ = decoded(function.code[p])
+            function.put_in[p] = function.upvalue_names[u]
+            function.code[p] = loading(function, a, held)
     for function in functions:
         function.code = [encoded('JMP', 0, wide(word)) if operation(word) == 'JMP' else word for word in function.code]

@@ -115,6 +115,8 @@ class Function:
         self.lines = chunk.list(chunk.int)
         self.locals = chunk.list(lambda: (chunk.string(), chunk.int(), chunk.int()))
         self.upvalue_names = chunk.list(chunk.string)
+        # the names of upvalues by the instructions that have taken the place of reading them (lua2image's upvalues.py)
+        self.put_in = {}
         self.demand_whole()
 
     def in_scope(self, p):

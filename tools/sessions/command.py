@@ -26,7 +26,8 @@ SHELLS = ((), ('bash',))
 MOST_SECONDS = 20
 
 REFUSED_ARGUMENT = 'f0140000000000000000\n'
-NO_ARGUMENT = "deletion: an argument isn't nil, true, false, an integer or a number\n"
+NO_ARGUMENT = "', isn't nil, true, false, an integer or a number that is read here (--help)\n"
+NO_IMAGE = 'deletion: this is no image; tools/lua2image/lua2image makes one of a rule in Lua\n'
 LOST = 'deletion: the answer could not be written whole\n'
 FINISHED = 'f0000000000100000000\n'
 
@@ -243,7 +244,9 @@ class Arguments(Case):
     def test_refused(self):
         for word in UNREAD:
             with self.subTest(word=word):
-                self.ended(2, REFUSED_ARGUMENT, NO_ARGUMENT, run('-', '1', word, stdin=returning(2)))
+                done = run('-', '1', word, 'x', stdin=returning(3))
+                self.ended(2, REFUSED_ARGUMENT, NO_ARGUMENT, done)
+                self.assertTrue(done.err.startswith("deletion: argument 2, '"))
 
     def test_as_many_as_there_are_parameters(self):
         for parameters in (0, 1, 7, 8):
@@ -264,7 +267,11 @@ class Arguments(Case):
                 with self.subTest(image=bad[:10], word=word):
                     alone = run(stdin=bad)
                     self.assertEqual(3, alone.status)
-                    self.ended(3, alone.out, '', run('-', word, stdin=bad))
+                    self.ended(3, alone.out, alone.err, run('-', word, stdin=bad))
+
+    def test_a_source_in_the_place_of_an_image(self):
+        self.ended(3, 'f0010000000000000000\n', NO_IMAGE, run(os.path.join(ROOT, 'examples', 'one-record.lua')))
+        self.ended(3, 'f0040000000000000000\n', '', run(stdin=b''))
 
 
 class Images(Case):
@@ -505,7 +512,7 @@ class Handing(Copy):
             answer = 'f0%02x0000000000000000\n' % number
             self.program(answer)
             with self.subTest(number=number):
-                self.ended(status, answer + 'image an image\n', 'deletion: ' if status == 2 else '', self.run_copy())
+                self.ended(status, answer + 'image an image\n', 'deletion: ' if status == 2 or number == 1 else '', self.run_copy())
         self.loader('#!/bin/sh\n')
         self.assertEqual(2, self.run_copy().status)
 
