@@ -99,7 +99,7 @@ static void print_value(uint8_t kind, uint64_t word)
         print_string(word);
         break;
     case DM_FUNCTION:
-        printf("function %" PRIu64 "\n", word);
+        printf("function %" PRIu64 "\n", DM_FUNCTION_PROTOTYPE(state.frames, word));
         break;
     default:
         puts("nil");

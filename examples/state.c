@@ -6,7 +6,7 @@
  *     ./state go rule.image paused          reads it back, and runs to the end
  *
  * A file that is damaged, or of another rule, is refused. What a machine returned is printed as it stands in its registers: kind and
- * word. Of a failed one the status is 1, of one that could not be run 2. */
+ * word, of a function its entry. Of a failed one the status is 1, of one that could not be run 2. */
 #include <inttypes.h>
 #include <stdio.h>
 #include <stdlib.h>

@@ -65,7 +65,7 @@ static void sha256(const uint8_t *bytes, size_t length, uint8_t digest[32])
 /* ---- a stored state ---- */
 
 #define MAGIC "DMSTATE\n"
-#define VERSION 1u
+#define VERSION 2u
 #define LENGTH_AT 12
 #define DIGEST_AT 16
 #define SIZES_AT 48
@@ -177,7 +177,7 @@ const char *dm_stored_message(enum dm_stored stored)
     case DM_STORED_NOT_A_STATE:
         return "no stored state: it doesn't begin with DMSTATE";
     case DM_STORED_VERSION:
-        return "a stored state of another version than 1";
+        return "a stored state of another version than 2, which is the one that is read here; 0.2.0 wrote version 1";
     case DM_STORED_LENGTH:
         return "a stored state that is cut off, or longer than it says";
     case DM_STORED_DAMAGED:

@@ -43,19 +43,19 @@ extern "C" {
 
 /* ---- the version ---- */
 
-/* 10000 * major + 100 * minor + patch: 200 is 0.2.0. This header's, and the linked library's: a host compares the two, once, before
+/* 10000 * major + 100 * minor + patch: 300 is 0.3.0. This header's, and the linked library's: a host compares the two, once, before
  * anything else, and stops where they differ. */
-#define DM_VERSION 200
+#define DM_VERSION 300
 uint32_t dm_version(void);
 
 /* ---- sizes, in elements: how long the slices have to be ---- */
 
-#define DM_TABLE 133       /* uint64_t table       STORAGE: the prototypes */
+#define DM_TABLE 421       /* uint64_t table       STORAGE: the prototypes */
 #define DM_CODE 5041       /* uint64_t code                 the instructions */
 #define DM_CONSTANTS 8448  /* uint8_t  const_kinds, uint64_t const_words: the constants */
 #define DM_TEXTS 32768     /* uint8_t  texts                the strings' bytes */
-#define DM_FRAMES 34       /* uint64_t frames      STATE:   the mark and the activations */
-#define DM_REGISTERS 2308  /* uint8_t  kinds, uint64_t words: the registers */
+#define DM_FRAMES 754      /* uint64_t frames      STATE:   the mark, the activations, the functions and their cells */
+#define DM_REGISTERS 2436  /* uint8_t  kinds, uint64_t words: the registers, and the values of closed cells */
 #define DM_ANSWER 8        /* uint32_t answer */
 #define DM_IMAGE 65536     /* the longest image, in bytes; also an output that any image fits */
 #define DM_ARGUMENTS 8     /* the most arguments */
@@ -68,7 +68,7 @@ enum dm_kind {
     DM_INTEGER = 2,  /* the 64 bits of a signed integer */
     DM_NUMBER = 3,   /* the 64 bits of a double */
     DM_STRING = 4,   /* the number of its constant in the whole image: see dm_text */
-    DM_FUNCTION = 5  /* its prototype */
+    DM_FUNCTION = 5  /* its closure entry, 0 to 63, in the frames of the same state: see DM_FUNCTION_PROTOTYPE */
 };
 
 /* ---- the numbers ---- */
@@ -78,17 +78,19 @@ enum dm_number {
 
     DM_BAD_LINE = 1,            /* reading: a line is empty, not paired lowercase hexadecimal, or lacks LF */
     DM_BAD_FRAME = 2,           /* reading: unknown kind, wrong length, tag, order or field; e0's count is wrong */
-    DM_TOO_MANY = 3,            /* reading: too many bytes, prototypes, constants or instructions */
+    DM_TOO_MANY = 3,            /* reading: too many bytes, prototypes, descriptors, constants or instructions */
     DM_BAD_END = 4,             /* reading: no e0 at the end, or a byte after it */
     DM_TOO_SHORT = 5,           /* storage, state, output or answer is too short */
     DM_NO_IMAGE = 6,            /* no image reads to this storage */
 
-    DM_BAD_OPERATION = 10,      /* checker: operation not carried, a count of 255, or a Jump that closes */
+    DM_BAD_OPERATION = 10,      /* checker: operation not carried, or a count of 255 */
     DM_BAD_BYTE = 11,           /* checker: an unused byte or flag is not 0, a yes/no byte is above 1 */
-    DM_BAD_REGISTER = 12,       /* checker */
+    DM_BAD_REGISTER = 12,       /* checker; also the register from which a Jump closes */
     DM_BAD_CONSTANT = 13,       /* checker */
     DM_BAD_TARGET = 14,         /* checker */
     DM_BAD_PROTOTYPE = 15,      /* checker: a Closure's prototype is not there, or there is none at all */
+    DM_BAD_UPVALUE = 16,        /* checker: an upvalue, or a descriptor of a Closure's prototype, out of range; prototype 0 has
+                                   descriptors, at instruction 0 */
 
     DM_BAD_ARGUMENT = 20,       /* start: more than 8, or one not nil, boolean, integer or number; dm_text: no string */
 
@@ -113,6 +115,8 @@ enum dm_number {
     DM_ERROR_NO_FUNCTION = 50,  /* Call of a value that is no function */
     DM_ERROR_CALLS = 51,        /* Call with 16 live activations */
     DM_ERROR_REGISTERS = 52,    /* Call that would pass 2,048 registers */
+    DM_ERROR_FUNCTIONS = 53,    /* Closure with no closure entry free: the run has made 64 functions */
+    DM_ERROR_CELLS = 54,        /* Closure that needs more cells than are free, of 128 */
 
     DM_FAULT = 60,              /* an unfit state, or an instruction that breaks a rule; not after a start that was not refused */
     DM_BUDGET = 70              /* the budget is used, and the machine still runs */
@@ -121,7 +125,7 @@ enum dm_number {
 /* whether a number is a Lua error's: `isLuaError` of the definitions */
 #define DM_IS_LUA_ERROR(number) \
     (((number) >= DM_ERROR_ADD && (number) <= DM_ERROR_MODULO_BY_ZERO) || \
-     ((number) >= DM_ERROR_NO_FUNCTION && (number) <= DM_ERROR_REGISTERS))
+     ((number) >= DM_ERROR_NO_FUNCTION && (number) <= DM_ERROR_CELLS))
 
 /* ---- the operand that an operator error, 30 to 46, names in answer[6] ---- */
 
@@ -147,9 +151,21 @@ typedef struct dm_storage {
     uint8_t texts[DM_TEXTS];
 } dm_storage;
 
+/* What the frames hold:
+ *
+ *     [0]               the mark: 70 while the machine runs, 0 when it has finished, else its Lua error's number + 256 * the operand
+ *                       that it names
+ *     [1]               how many activations are alive, 1 to 16
+ *     [2 + 2 * i]       activation i, the outermost is 0: its prototype
+ *     [3 + 2 * i]       its instruction
+ *     [34 + i]          the function that was called for it: 0 none, of the outermost; else its entry + 1
+ *     [50 + 9 * e]      closure entry e, 0 to 63, a function: 0 free, else its prototype + 1
+ *     [51 + 9 * e + j]  its upvalue j, 0 to 7: 0 none, else the cell + 1
+ *     [626 + c]         cell c, 0 to 127, a variable that functions share: 0 free, 1 closed, 2 + r open on register r
+ *
+ * An open cell's value is its register's; a closed one's is kinds[2308 + c], words[2308 + c]. */
 typedef struct dm_state {
-    uint64_t frames[DM_FRAMES]; /* frames[0], the mark: 70 while the machine runs, 0 when it has finished, else its Lua error's
-                                   number + 256 * the operand that it names */
+    uint64_t frames[DM_FRAMES];
     uint8_t kinds[DM_REGISTERS];
     uint64_t words[DM_REGISTERS];
 } dm_state;
@@ -160,8 +176,15 @@ typedef struct dm_state {
 #define DM_STATE(s) (s)->frames, DM_FRAMES, (s)->kinds, DM_REGISTERS, (s)->words, DM_REGISTERS
 
 /* How many parameters the rule has that was read to `table`: those of prototype 0; 0 where there is none. table[0] is the number of
- * prototypes; then come, for each, its registers, its parameters, its first constant and its first instruction. */
+ * prototypes; then come, for each, its registers, its parameters, its first constant and its first instruction. From table[133] on
+ * each has 9: how many descriptors it has, then these (below 256 a register of the parent, else an upvalue of the parent's + 256). */
 #define DM_PARAMETERS(table) ((table)[0] == 0 ? 0 : (table)[2])
+
+/* The prototype of a function: `word` is a register's word where its kind is DM_FUNCTION, and `frames` are those of the same state. It
+ * is for values that dm_returned tells of: a word from elsewhere may be no entry's (64 or more), or a free one's, which has none.
+ * Each Closure that is carried out makes an entry, and a function is its entry: two values in one state are the same function where
+ * their words are equal, and two functions of one prototype may differ. */
+#define DM_FUNCTION_PROTOTYPE(frames, word) ((frames)[50 + 9 * (word)] - 1)
 
 /* ---- an image ---- */
 
@@ -180,7 +203,7 @@ uint32_t dm_write(const uint64_t *table, size_t table_length, const uint64_t *co
                   uint8_t *out, size_t out_length,
                   uint32_t *answer, size_t answer_length);
 
-/* Whether the machine carries the image out without a fault: 0; 5; 6; 10 to 15 at the first bad instruction. */
+/* Whether the machine carries the image out without a fault: 0; 5; 6; 10 to 16 at the first bad instruction. */
 uint32_t dm_check(const uint64_t *table, size_t table_length, const uint64_t *code, size_t code_length,
                   const uint8_t *const_kinds, size_t const_kinds_length, const uint64_t *const_words, size_t const_words_length,
                   const uint8_t *texts, size_t texts_length,
@@ -190,8 +213,8 @@ uint32_t dm_check(const uint64_t *table, size_t table_length, const uint64_t *co
 
 /* Starts a machine on prototype 0, with the arguments arg_kinds[i], arg_words[i]; where one of the two is missing it is no
  * value. Parameters without an argument are nil, and arguments without a parameter (DM_PARAMETERS) are dropped, without a word. It
- * checks the image itself. 0; 5; 6; 10 to 15; 20. Only the window of prototype 0 and its activation are written; a refusal leaves
- * STATE untouched. */
+ * checks the image itself. 0; 5; 6; 10 to 16; 20. Written are the window of prototype 0 and its activation, and all entries and cells,
+ * the values of closed ones too, which become 0; nothing else is, and a refusal leaves STATE untouched. */
 uint32_t dm_start(const uint64_t *table, size_t table_length, const uint64_t *code, size_t code_length,
                   const uint8_t *const_kinds, size_t const_kinds_length, const uint64_t *const_words, size_t const_words_length,
                   const uint8_t *texts, size_t texts_length,
@@ -244,7 +267,7 @@ uint32_t dm_text(const uint64_t *table, size_t table_length, const uint64_t *cod
  * Rust package (State::to_bytes) writes and reads the same bytes. Numbers have their lowest byte first:
  *
  *     0 to 7      "DMSTATE" and LF
- *     8 to 11     the version of this layout: 1
+ *     8 to 11     the version of this layout: 2. 0.2.0 wrote version 1, of a state without entries and cells, which is refused
  *     12 to 15    how many bytes there are in all: DM_STATE_BYTES
  *     16 to 47    the SHA-256 of the image's bytes
  *     48 to 59    DM_FRAMES, DM_REGISTERS and DM_REGISTERS, 4 bytes each: how many frames, kinds and words follow
@@ -265,7 +288,7 @@ void dm_state_to_bytes(const uint8_t digest[32], const dm_state *state, uint8_t 
 enum dm_stored {
     DM_STORED_GOOD = 0,        /* `state` is the one that was put away, on this image */
     DM_STORED_NOT_A_STATE = 1, /* other bytes stand at the beginning */
-    DM_STORED_VERSION = 2,     /* another version of the layout */
+    DM_STORED_VERSION = 2,     /* another version of the layout, as 0.2.0 wrote */
     DM_STORED_LENGTH = 3,      /* cut off, or longer than it says */
     DM_STORED_DAMAGED = 4,     /* the checksum is not that of the bytes, or their lengths don't add up */
     DM_STORED_OTHER_RULE = 5,  /* of a machine on another image */

@@ -477,6 +477,28 @@ mod tests {
         }
     }
 
+    /// The window, the activation, all entries and cells, and nothing else.
+    #[test]
+    fn what_a_start_writes() {
+        let mut state = State {
+            frames: vec![7; FRAMES + 1],
+            kinds: vec![7; REGISTERS + 1],
+            words: vec![7; REGISTERS + 1],
+        };
+        let mut expected = state.clone();
+        expected.frames[..4].copy_from_slice(&[70, 1, 0, 0]);
+        expected.frames[34] = 0;
+        expected.frames[50..FRAMES].fill(0);
+        expected.kinds[0] = 0;
+        expected.kinds[2_308..REGISTERS].fill(0);
+        expected.words[0] = 0;
+        expected.words[2_308..REGISTERS].fill(0);
+        assert_eq!(start(&filled(), &mut state, &[], &[]).number, 0);
+        assert_eq!(state.frames, expected.frames);
+        assert_eq!(state.kinds, expected.kinds);
+        assert_eq!(state.words, expected.words);
+    }
+
     #[test]
     fn a_start_keeps_no_operand() {
         let mut state = State::empty();

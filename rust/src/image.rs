@@ -179,7 +179,7 @@ pub enum ReadError {
         /// How many bytes there are.
         bytes: usize,
     },
-    /// 3: with this line there are more than 32 prototypes, or more than 256 constants or 4,096 instructions in one.
+    /// 3: with this line there are more than 32 prototypes, or more than 8 descriptors, 256 constants or 4,096 instructions in one.
     TooMany {
         /// The line at fault.
         line: usize,
@@ -215,7 +215,7 @@ impl ReadError {
 }
 
 /// What 3 says, of bytes and of lines.
-const TOO_MANY: &str = "too many: an image has at most 65536 bytes and 32 prototypes, a prototype at most 256 constants and 4096 instructions";
+const TOO_MANY: &str = "too many: an image has at most 65536 bytes and 32 prototypes, a prototype at most 8 descriptors, 256 constants and 4096 instructions";
 
 impl fmt::Display for ReadError {
     fn fmt(&self, f: &mut fmt::Formatter<'_>) -> fmt::Result {
@@ -245,11 +245,11 @@ impl Error for ReadError {}
 #[derive(Clone, Copy, Debug, PartialEq, Eq, Hash)]
 #[non_exhaustive]
 pub enum CheckError {
-    /// 10: an operation that the machine doesn't have, a count of 255 in Call or Return, or a Jump that closes.
+    /// 10: an operation that the machine doesn't have, or a count of 255 in Call or Return.
     Operation(Place),
     /// 11: an unused byte or flag that isn't zero, or a yes/no byte above 1.
     Unused(Place),
-    /// 12: a register that the prototype doesn't have.
+    /// 12: a register that the prototype doesn't have; also the one from which a Jump closes.
     Register(Place),
     /// 13: a constant that the prototype doesn't have.
     Constant(Place),
@@ -257,6 +257,9 @@ pub enum CheckError {
     Target(Place),
     /// 15: a Closure of a prototype that isn't in the image; or the image has no prototype at all.
     Prototype(Place),
+    /// 16: an upvalue that the prototype doesn't have; a Closure of a prototype with a descriptor of a register or an upvalue that this
+    /// one doesn't have; or the first prototype has descriptors, at its instruction 0.
+    Upvalue(Place),
 }
 
 impl CheckError {
@@ -269,11 +272,12 @@ impl CheckError {
             13 => CheckError::Constant(place),
             14 => CheckError::Target(place),
             15 => CheckError::Prototype(place),
+            16 => CheckError::Upvalue(place),
             _ => return None,
         })
     }
 
-    /// The number that the machine answers: 10 to 15.
+    /// The number that the machine answers: 10 to 16.
     pub fn number(&self) -> u8 {
         match self {
             CheckError::Operation(_) => 10,
@@ -282,6 +286,7 @@ impl CheckError {
             CheckError::Constant(_) => 13,
             CheckError::Target(_) => 14,
             CheckError::Prototype(_) => 15,
+            CheckError::Upvalue(_) => 16,
         }
     }
 
@@ -293,7 +298,8 @@ impl CheckError {
             | CheckError::Register(place)
             | CheckError::Constant(place)
             | CheckError::Target(place)
-            | CheckError::Prototype(place) => place,
+            | CheckError::Prototype(place)
+            | CheckError::Upvalue(place) => place,
         }
     }
 }
@@ -302,7 +308,7 @@ impl fmt::Display for CheckError {
     fn fmt(&self, f: &mut fmt::Formatter<'_>) -> fmt::Result {
         let what = match self {
             CheckError::Operation(_) => {
-                "an operation that the machine doesn't have, a count of 255 in a call or return, or a jump that closes"
+                "an operation that the machine doesn't have, or a count of 255 in a call or return"
             }
             CheckError::Unused(_) => {
                 "an unused byte or flag that isn't zero, or a yes/no byte above 1"
@@ -311,6 +317,9 @@ impl fmt::Display for CheckError {
             CheckError::Constant(_) => "a constant that the prototype doesn't have",
             CheckError::Target(_) => "the next instruction may be one that isn't there",
             CheckError::Prototype(_) => "a prototype that isn't in the image",
+            CheckError::Upvalue(_) => {
+                "an upvalue or a captured register that the prototype doesn't have, or descriptors on prototype 0"
+            }
         };
         write!(f, "{}: {what}", self.place())
     }

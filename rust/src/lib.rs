@@ -89,7 +89,7 @@ pub use value::Value;
 /// ```
 /// let (major, minor, patch) = deletion_machine::library_version();
 /// println!("on the deletion machine {major}.{minor}.{patch}");
-/// # assert_eq!(format!("{major}.{minor}.{patch}"), "0.2.0");
+/// # assert_eq!(format!("{major}.{minor}.{patch}"), "0.3.0");
 /// ```
 pub fn library_version() -> (u32, u32, u32) {
     let version = ffi::version();

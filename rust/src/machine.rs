@@ -9,7 +9,7 @@ use std::fmt;
 /// The most arguments that a machine is started with.
 pub const ARGUMENTS: usize = 8;
 
-/// A machine that runs an image. It owns its state, about 20 kilobytes, and holds the image as it was given: `&Image`, which
+/// A machine that runs an image. It owns its state, about 28 kilobytes, and holds the image as it was given: `&Image`, which
 /// it borrows; `Arc<Image>`, which it shares; or an `Image` of its own.
 ///
 /// One that borrows costs nothing and is the shortest to write:
@@ -235,7 +235,12 @@ impl State {
             2 => Value::Integer(word as i64),
             3 => Value::Number(f64::from_bits(word)),
             4 => Value::String(image.string(word)),
-            5 => Value::Function(word as usize),
+            5 => {
+                // an entry in use: below 64, and it has a prototype
+                let entry = word as usize;
+                let prototype = self.prototype(entry);
+                Value::Function { prototype, entry }
+            }
             kind => {
                 unreachable!("a live register of a fit state has a kind up to 5, and not {kind}")
             }
@@ -293,7 +298,8 @@ impl fmt::Display for Answer {
 pub enum Outcome {
     /// 0: the outermost Return is done; [`Machine::values`] has what it returned.
     Finished,
-    /// A [`LuaError`]'s number: the rule did what Lua forbids, or went too deep. The error names the operand at fault.
+    /// A [`LuaError`]'s number: the rule did what Lua forbids, went too deep or made too many functions. An operator's error names
+    /// the operand at fault.
     Failed(LuaError),
     /// 70: the budget is used, and the machine still runs.
     Paused,
@@ -337,7 +343,7 @@ impl fmt::Display for Outcome {
 #[derive(Clone, Copy, Debug, PartialEq, Eq, Hash)]
 #[non_exhaustive]
 pub enum StartError {
-    /// 10 to 15: the image can't be carried out.
+    /// 10 to 16: the image can't be carried out.
     Check(CheckError),
     /// 20: more than [`ARGUMENTS`] arguments, or one that is not nil, a boolean, an integer or a number.
     Arguments,
@@ -352,7 +358,7 @@ pub enum StartError {
 }
 
 impl StartError {
-    /// The number that the machine answers: 10 to 15, or 20. For [`StartError::Surplus`], which the machine doesn't refuse, it
+    /// The number that the machine answers: 10 to 16, or 20. For [`StartError::Surplus`], which the machine doesn't refuse, it
     /// has none.
     pub fn number(&self) -> Option<u8> {
         match self {
@@ -434,7 +440,8 @@ impl Error for StartError {
 pub struct LuaError {
     /// What was wrong.
     pub kind: LuaErrorKind,
-    /// The operand that is named: the first that is unfit, or the zero divisor. An operator's error names one, a call's none.
+    /// The operand that is named: the first that is unfit, or the zero divisor. An operator's error names one, that of a call or
+    /// of a function that is made none.
     ///
     /// A machine that was resumed answers the operand that its state keeps, also one that no run leaves there, as with a call; then
     /// the text says what it says without one.
@@ -528,6 +535,10 @@ pub enum LuaErrorKind {
     TooDeep = 51,
     /// 52: a call that would pass 2,048 registers in all live windows.
     TooManyRegisters = 52,
+    /// 53: a function is made, and no closure entry is free for it: the run has made 64.
+    TooManyFunctions = 53,
+    /// 54: a function is made, and of the 128 cells, for variables that functions use from outside, fewer are free than it needs.
+    TooManyCells = 54,
 }
 
 impl LuaErrorKind {
@@ -553,6 +564,8 @@ impl LuaErrorKind {
         LuaErrorKind::NotAFunction,
         LuaErrorKind::TooDeep,
         LuaErrorKind::TooManyRegisters,
+        LuaErrorKind::TooManyFunctions,
+        LuaErrorKind::TooManyCells,
     ];
 
     fn told(number: u32) -> Option<LuaErrorKind> {
@@ -633,6 +646,14 @@ impl fmt::Display for LuaError {
             LuaErrorKind::TooManyRegisters => write!(
                 f,
                 "a call too deep: the active functions would have more than 2048 registers"
+            ),
+            LuaErrorKind::TooManyFunctions => write!(
+                f,
+                "a function too many: this run has made 64, and there is no room for another"
+            ),
+            LuaErrorKind::TooManyCells => write!(
+                f,
+                "a function too many: of the 128 places for variables that functions use from outside, too few are left"
             ),
         }
     }

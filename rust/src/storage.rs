@@ -1,7 +1,7 @@
 //! What an image is read to: plain data, as it is lent to the static library.
 
 /// The published sizes, in elements.
-pub(crate) const TABLE: usize = 133;
+pub(crate) const TABLE: usize = 421;
 pub(crate) const CODE: usize = 5_041;
 pub(crate) const CONSTANTS: usize = 8_448;
 pub(crate) const TEXTS: usize = 32_768;
@@ -9,7 +9,8 @@ pub(crate) const TEXTS: usize = 32_768;
 /// What a read image fills.
 #[derive(Clone, PartialEq, Eq)]
 pub(crate) struct Storage {
-    /// The number of prototypes; then for each its registers, its parameters, its first constant and its first instruction.
+    /// The number of prototypes; then for each its registers, its parameters, its first constant and its first instruction; from
+    /// 133 on for each how many descriptors it has, and these.
     pub table: Vec<u64>,
     pub code: Vec<u64>,
     pub const_kinds: Vec<u8>,

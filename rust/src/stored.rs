@@ -10,7 +10,7 @@ use std::fmt;
 pub const STATE_BYTES: usize = HEAD + 8 * FRAMES + REGISTERS + 8 * REGISTERS + CHECKSUM;
 
 const MAGIC: [u8; 8] = *b"DMSTATE\n";
-const VERSION: u32 = 1;
+const VERSION: u32 = 2;
 /// The bytes before the frames, and those of the checksum.
 const HEAD: usize = 64;
 const CHECKSUM: usize = 32;
@@ -26,15 +26,18 @@ impl State {
     /// | bytes | what |
     /// |---|---|
     /// | 0 to 7 | `DMSTATE` and LF |
-    /// | 8 to 11 | the version of this layout: 1 |
+    /// | 8 to 11 | the version of this layout: 2 |
     /// | 12 to 15 | how many bytes there are in all |
     /// | 16 to 47 | the SHA-256 of the image's bytes: [`Image::digest`] |
-    /// | 48 to 51, 52 to 55, 56 to 59 | how many frames, kinds and words follow: 34, 2308 and 2308 |
+    /// | 48 to 51, 52 to 55, 56 to 59 | how many frames, kinds and words follow: 754, 2436 and 2436 |
     /// | 60 to 63 | 0 |
     /// | from 64 | the frames, 8 bytes each; the kinds, a byte each; the words, 8 bytes each |
     /// | the last 32 | the SHA-256 of all bytes before them |
     ///
     /// The checksum tells damage, not intent: who can write the bytes can write another state, as a host can.
+    ///
+    /// 0.2.0 wrote version 1, of a state without closure entries and cells. It is refused ([`StateError::Version`]): a machine that
+    /// was put away so goes on where 0.2.0 runs, or is started again.
     ///
     /// [`Machine::from_bytes`]: crate::Machine::from_bytes
     pub fn to_bytes(&self, image: &Image) -> Vec<u8> {
@@ -159,7 +162,7 @@ fn longs(bytes: &[u8]) -> Vec<u64> {
 pub enum StateError {
     /// 1: no stored state at all: other bytes stand at its beginning.
     NotAState,
-    /// 2: of another version of the layout.
+    /// 2: of another version of the layout, as 0.2.0 wrote it.
     Version {
         /// Which one.
         found: u32,
@@ -210,10 +213,13 @@ impl fmt::Display for StateError {
     fn fmt(&self, f: &mut fmt::Formatter<'_>) -> fmt::Result {
         match self {
             StateError::NotAState => write!(f, "no stored state: it doesn't begin with DMSTATE"),
-            StateError::Version { found } => write!(
-                f,
-                "a stored state of version {found}, and version {VERSION} is the one that is read here"
-            ),
+            StateError::Version { found } => {
+                let by = if *found == 1 { ", which 0.2.0 wrote" } else { "" };
+                write!(
+                    f,
+                    "a stored state of version {found}{by}, and version {VERSION} is the one that is read here"
+                )
+            }
             StateError::Length { bytes, says: None } => write!(
                 f,
                 "a stored state that is cut off: {bytes} bytes, too few to say its length"

@@ -47,6 +47,7 @@ fn rust() -> Vec<(u8, String)> {
         CheckError::Constant,
         CheckError::Target,
         CheckError::Prototype,
+        CheckError::Upvalue,
     ] {
         let error = error(at(1, 2));
         let place = "prototype 1, instruction 2: ";
@@ -99,7 +100,7 @@ fn the_table_has_the_headers_numbers() {
             digits.unwrap().parse().unwrap()
         })
         .collect();
-    assert_eq!(numbers.len(), 36);
+    assert_eq!(numbers.len(), 39);
     assert_eq!(table().into_keys().collect::<Vec<u32>>(), numbers);
 }
 

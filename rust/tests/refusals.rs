@@ -51,6 +51,12 @@ fn two() {
         (&["a00100", "c00c00000000", "b000"], 2),
         (&["a00100", "c00c00000000", "e002"], 2),
         (&["a00100", "c00c00000000", "e000"], 2),
+        (&["d10000"], 0),
+        (&["a00100", "d1"], 1),
+        (&["a00100", "d10200"], 1),
+        (&["a00100", "d1000000"], 1),
+        (&["a00100", "b000", "d10000"], 2),
+        (&["a00100", "c00c00000000", "d10000"], 2),
     ] {
         let error = refused(&text(lines));
         assert_eq!(error, ReadError::NotAFrame { line }, "{lines:?}");
@@ -72,7 +78,7 @@ fn three() {
     assert_eq!(error, ReadError::TooLong { bytes: 65_537 });
     assert_eq!(
         error.to_string(),
-        "65537 bytes: too many: an image has at most 65536 bytes and 32 prototypes, a prototype at most 256 constants and 4096 instructions"
+        "65537 bytes: too many: an image has at most 65536 bytes and 32 prototypes, a prototype at most 8 descriptors, 256 constants and 4096 instructions"
     );
 
     let prototypes = |n: usize| text(&vec!["a00100"; n]);
@@ -84,6 +90,9 @@ fn three() {
         lines.resize(n + 1, frame);
         text(&lines)
     };
+    let descriptors = |n| refused(&with("d10000", n));
+    assert_eq!(descriptors(8), ReadError::NoEnd { line: 9 });
+    assert_eq!(descriptors(9), ReadError::TooMany { line: 9 });
     let constants = |n| refused(&with("b000", n));
     assert_eq!(constants(256), ReadError::NoEnd { line: 257 });
     assert_eq!(constants(257), ReadError::TooMany { line: 257 });
@@ -92,7 +101,7 @@ fn three() {
     assert_eq!(instructions(4097), ReadError::TooMany { line: 4097 });
     assert_eq!(
         instructions(4097).to_string(),
-        "line 4097 (from 0): too many: an image has at most 65536 bytes and 32 prototypes, a prototype at most 256 constants and 4096 instructions"
+        "line 4097 (from 0): too many: an image has at most 65536 bytes and 32 prototypes, a prototype at most 8 descriptors, 256 constants and 4096 instructions"
     );
 }
 
@@ -126,7 +135,7 @@ fn numbers_and_lines_of_reading() {
     }
 }
 
-// ---- checking: 10 to 15
+// ---- checking: 10 to 16
 
 /// Checks a prototype of two registers, one constant and these instructions, then a good one; starting refuses the
 /// same.
@@ -147,31 +156,82 @@ fn checked(instructions: &[&str]) -> Result<(), CheckError> {
 const RETURN: &str = "c00c00000000";
 
 #[test]
-fn ten_to_fifteen() {
+fn ten_to_sixteen() {
     assert_eq!(checked(&[RETURN]), Ok(()));
     for (instruction, error, number) in [
         ("c00400000000", CheckError::Operation(at(0, 1)), 10),
         ("c0ff00000000", CheckError::Operation(at(0, 1)), 10),
         ("c00a0000ff00", CheckError::Operation(at(0, 1)), 10),
         ("c00c0000ff00", CheckError::Operation(at(0, 1)), 10),
-        ("c00e00000000", CheckError::Operation(at(0, 1)), 10),
         ("c00000000001", CheckError::Unused(at(0, 1)), 11),
         ("c00001000000", CheckError::Unused(at(0, 1)), 11),
         ("c00200000200", CheckError::Unused(at(0, 1)), 11),
         ("c00000020000", CheckError::Register(at(0, 1)), 12),
         ("c00300010200", CheckError::Register(at(0, 1)), 12),
+        ("c00e00020000", CheckError::Register(at(0, 1)), 12),
+        ("c00e00fe8000", CheckError::Register(at(0, 1)), 12),
+        ("c01800020000", CheckError::Register(at(0, 1)), 12),
+        ("c01900000200", CheckError::Register(at(0, 1)), 12),
         ("c00100000001", CheckError::Constant(at(0, 1)), 13),
         ("c02101000100", CheckError::Constant(at(0, 1)), 13),
         ("c00e00ff0001", CheckError::Target(at(0, 1)), 14),
         ("c00e00ff8000", CheckError::Target(at(0, 1)), 14),
         ("c00f00000000", CheckError::Target(at(0, 1)), 14),
         ("c01100000200", CheckError::Prototype(at(0, 1)), 15),
+        ("c01800000000", CheckError::Upvalue(at(0, 1)), 16),
+        ("c01900000000", CheckError::Upvalue(at(0, 1)), 16),
     ] {
         let result = checked(&["c00300000200", instruction, RETURN]);
         assert_eq!(result, Err(error), "{instruction}");
         assert_eq!(error.number(), number);
         assert_eq!(error.place(), at(0, 1));
     }
+}
+
+#[test]
+fn a_jump_may_close() {
+    for instruction in ["c00e00000000", "c00e00010000", "c00e00ff0000"] {
+        assert_eq!(checked(&[instruction, RETURN]), Ok(()), "{instruction}");
+    }
+}
+
+/// Checks a prototype of two registers and no upvalue that makes a function of the next, which has these descriptors.
+fn capturing(descriptors: &[&str]) -> Result<(), CheckError> {
+    let mut lines = vec!["a00200", "c01100010100", RETURN, "a00100"];
+    lines.extend(descriptors);
+    lines.extend([RETURN, "e002"]);
+    image(&lines).check()
+}
+
+/// The same of one with an upvalue, prototype 1.
+fn capturing_inside(descriptors: &[&str]) -> Result<(), CheckError> {
+    let mut lines = vec!["a00200", "c01100000100", RETURN];
+    lines.extend(["a00200", "d10001", "c01100010200", RETURN, "a00100"]);
+    lines.extend(descriptors);
+    lines.extend([RETURN, "e003"]);
+    image(&lines).check()
+}
+
+#[test]
+fn descriptors() {
+    assert_eq!(capturing(&["d10000", "d10001"]), Ok(()));
+    assert_eq!(capturing_inside(&["d10000", "d10100", "d10001"]), Ok(()));
+    let bad = Err(CheckError::Upvalue(at(0, 0)));
+    assert_eq!(capturing(&["d10002"]), bad);
+    assert_eq!(capturing(&["d10000", "d10100"]), bad);
+    let bad = Err(CheckError::Upvalue(at(1, 0)));
+    assert_eq!(capturing_inside(&["d10100", "d10002"]), bad);
+    assert_eq!(capturing_inside(&["d10101"]), bad);
+
+    // a prototype that no Closure names may have any; the first none
+    let unnamed = image(&["a00100", RETURN, "a00100", "d101ff", RETURN, "e002"]);
+    assert_eq!(unnamed.check(), Ok(()));
+    let first = ["a00200", "d10000", "c00300000200", RETURN, "e001"];
+    assert_eq!(image(&first).check(), Err(CheckError::Upvalue(at(0, 0))));
+    let lower = ["a00200", "d10000", "c00300000300", RETURN, "e001"];
+    assert_eq!(image(&lower).check(), Err(CheckError::Register(at(0, 0))));
+    let none = ["a00200", "d10000", "e001"];
+    assert_eq!(image(&none).check(), Err(CheckError::Target(at(0, 0))));
 }
 
 #[test]
@@ -189,7 +249,7 @@ fn texts_of_checking() {
     for (error, what) in [
         (
             CheckError::Operation(place),
-            "an operation that the machine doesn't have, a count of 255 in a call or return, or a jump that closes",
+            "an operation that the machine doesn't have, or a count of 255 in a call or return",
         ),
         (
             CheckError::Unused(place),
@@ -210,6 +270,10 @@ fn texts_of_checking() {
         (
             CheckError::Prototype(place),
             "a prototype that isn't in the image",
+        ),
+        (
+            CheckError::Upvalue(place),
+            "an upvalue or a captured register that the prototype doesn't have, or descriptors on prototype 0",
         ),
     ] {
         let text = format!("prototype 2, instruction 17: {what}");
@@ -237,7 +301,11 @@ fn twenty() {
         refused(&[Value::Nil, Value::String(b"")]),
         StartError::Arguments
     );
-    assert_eq!(refused(&[Value::Function(0)]), StartError::Arguments);
+    let function = Value::Function {
+        prototype: 0,
+        entry: 0,
+    };
+    assert_eq!(refused(&[function]), StartError::Arguments);
     assert_eq!(StartError::Arguments.number(), Some(20));
     let error: Box<dyn Error> = StartError::Arguments.into();
     assert_eq!(
@@ -253,7 +321,7 @@ fn the_checker_comes_before_the_arguments() {
     assert_eq!(error, StartError::Check(CheckError::Prototype(at(0, 0))));
 }
 
-// ---- running: 30 to 46, 50 to 52
+// ---- running: 30 to 46, 50 to 54
 
 /// An error that names the operand with this number, 0 for none.
 fn naming(kind: LuaErrorKind, operand: usize) -> LuaError {
@@ -386,9 +454,44 @@ fn fifty_to_fifty_two() {
 }
 
 #[test]
+fn fifty_three_and_fifty_four() {
+    // a loop that makes functions: the 65th; then over 3 registers each, which the jump back closes: 42 times 3 of 128 cells are used
+    let functions = [
+        "a00400",
+        "c01100000100",
+        "c00e0000fffe",
+        RETURN,
+        "a00100",
+        RETURN,
+        "e002",
+    ];
+    assert_eq!(
+        failed(&functions),
+        (naming(LuaErrorKind::TooManyFunctions, 0), 129, at(0, 0))
+    );
+    let mut cells = functions.to_vec();
+    cells.splice(5..5, ["d10001", "d10002", "d10003"]);
+    assert_eq!(
+        failed(&cells),
+        (naming(LuaErrorKind::TooManyCells, 0), 85, at(0, 0))
+    );
+    // over 2 registers each both are used up after 64, and the entries come first; without the closing the cells are the same two
+    cells.remove(5);
+    assert_eq!(
+        failed(&cells),
+        (naming(LuaErrorKind::TooManyFunctions, 0), 129, at(0, 0))
+    );
+    cells[2] = "c00e00fffffe";
+    assert_eq!(
+        failed(&cells),
+        (naming(LuaErrorKind::TooManyFunctions, 0), 129, at(0, 0))
+    );
+}
+
+#[test]
 fn numbers_of_lua_errors_and_operands() {
     let numbers: Vec<u8> = LuaErrorKind::ALL.iter().map(LuaErrorKind::number).collect();
-    let expected: Vec<u8> = (30..=46).chain(50..=52).collect();
+    let expected: Vec<u8> = (30..=46).chain(50..=54).collect();
     assert_eq!(numbers, expected);
     for &kind in LuaErrorKind::ALL {
         for operand in 0..4 {
@@ -468,6 +571,16 @@ fn texts_of_lua_errors() {
         (LuaErrorKind::FloorDivideByZero, 2, "the right operand of `//` is zero"),
         (LuaErrorKind::ModuloByZero, 2, "the right operand of `%` is zero"),
         (LuaErrorKind::NotAFunction, 0, "a call of a value that is not a function"),
+        (
+            LuaErrorKind::TooManyFunctions,
+            0,
+            "a function too many: this run has made 64, and there is no room for another",
+        ),
+        (
+            LuaErrorKind::TooManyCells,
+            0,
+            "a function too many: of the 128 places for variables that functions use from outside, too few are left",
+        ),
     ] {
         assert_eq!(naming(kind, operand).to_string(), text);
     }
@@ -494,7 +607,7 @@ fn no_two_texts_are_the_same() {
     // of what a run answers, the one operand is told from the other
     for &kind in LuaErrorKind::ALL {
         let told = naming(kind, 1).to_string() != naming(kind, 2).to_string();
-        let only = matches!(kind.number(), 36 | 40 | 45 | 46 | 50..=52);
+        let only = matches!(kind.number(), 36 | 40 | 45 | 46 | 50..=54);
         assert_eq!(told, !only, "{kind:?}");
     }
 }
@@ -515,7 +628,7 @@ fn texts_of_operands_that_no_run_leaves() {
             30 | 31 => &[], // each is an operator's or a loop's
             36 | 40 => &[2, 3],
             45 | 46 => &[1, 3],
-            50..=52 => &[1, 2, 3],
+            50..=54 => &[1, 2, 3],
             _ => &[3],
         };
         for &operand in unheard {
@@ -538,7 +651,7 @@ fn sixty() {
         place: at(0, 0),
     };
     type Tamper = fn(&mut State);
-    let tampers: [(&str, Tamper); 12] = [
+    let tampers: [(&str, Tamper); 16] = [
         ("a mark that is none", |state| state.frames[0] = 99),
         ("finished, not at a Return", |state| {
             state.frames[0] = 0;
@@ -556,8 +669,21 @@ fn sixty() {
             state.words[1] = 2
         }),
         ("a string that isn't there", |state| state.kinds[1] = 4),
-        ("frames too short", |state| state.frames.truncate(33)),
-        ("kinds too short", |state| state.kinds.truncate(2_307)),
+        ("a function of a free entry", |state| state.kinds[1] = 5),
+        ("a function of an entry that isn't there", |state| {
+            state.kinds[1] = 5;
+            state.words[1] = 64
+        }),
+        ("the first activation has a function", |state| {
+            state.frames[34] = 1;
+            state.frames[50] = 1
+        }),
+        ("an entry over a free cell", |state| {
+            state.frames[50] = 1;
+            state.frames[51] = 1
+        }),
+        ("frames too short", |state| state.frames.truncate(753)),
+        ("kinds too short", |state| state.kinds.truncate(2_435)),
         ("no words", |state| state.words.clear()),
     ];
     for (what, tamper) in tampers {
@@ -581,6 +707,8 @@ fn sixty() {
     let mut state = good.clone();
     state.kinds[2] = 9;
     state.frames[4] = 1_000;
+    state.frames[51] = 7;
+    state.kinds[2_308] = 9;
     let mut machine = Machine::resume(&image, state);
     assert_eq!(machine.run(BUDGET).outcome, Outcome::Finished);
 }

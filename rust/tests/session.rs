@@ -51,6 +51,9 @@ fn what_was_read_is_written_back() {
     texts.push(text(&["a0ffff", "c0ffffffffff", "e001"]));
     texts.push(text(&["a00100", "b000", "b00100", "b00101", "e001"]));
     texts.push(text(&[
+        "a00100", "d10000", "d101ff", "b000", "a00100", "d100ff", "e002",
+    ]));
+    texts.push(text(&[
         "a00100",
         "b0037ff0000000000001", // a NaN keeps its bits
         "b004",
@@ -144,7 +147,10 @@ fn values_of_every_kind() {
             Value::Number(1.5),
             Value::String(&[0, 255, b'a']),
             Value::String(b""),
-            Value::Function(1),
+            Value::Function {
+                prototype: 1,
+                entry: 0
+            },
         ]
     );
     // a constant that is copied keeps its bits, of a NaN too

@@ -96,28 +96,28 @@ fn the_layout() {
     let mut machine = Machine::start(&image, &[]).unwrap();
     machine.run(8);
     let bytes = machine.to_bytes();
-    assert_eq!((bytes.len(), STATE_BYTES), (21_140, 21_140));
+    assert_eq!((bytes.len(), STATE_BYTES), (28_052, 28_052));
     assert_eq!(&bytes[..8], b"DMSTATE\n");
-    assert_eq!(hex(&bytes[8..16]), "0100000094520000");
+    assert_eq!(hex(&bytes[8..16]), "02000000946d0000");
     // what sha256sum prints for the image
     let digest = "ccd776ebb0995be237066dc1726b3c4f91f83c59ac3c7a1fed5b09d2352e94c7";
     assert_eq!(hex(&bytes[16..48]), digest);
     assert_eq!(hex(&image.digest()), digest);
-    assert_eq!(hex(&bytes[48..64]), "22000000040900000409000000000000");
+    assert_eq!(hex(&bytes[48..64]), "f2020000840900008409000000000000");
     // 70, one activation, prototype 0, instruction 5; then the kinds, and the words
     assert_eq!(
         hex(&bytes[64..96]),
         "4600000000000000010000000000000000000000000000000500000000000000"
     );
-    assert!(bytes[96..336].iter().all(|byte| *byte == 0));
-    assert_eq!(hex(&bytes[336..341]), "0202020200");
+    assert!(bytes[96..6_096].iter().all(|byte| *byte == 0));
+    assert_eq!(hex(&bytes[6_096..6_101]), "0202020200");
     assert_eq!(
-        hex(&bytes[2_644..2_676]),
+        hex(&bytes[8_532..8_564]),
         "0400000000000000030000000000000001000000000000000300000000000000"
     );
     // what it prints for the bytes before
-    let sum = "89458e4fd21b237096374775878e03936ed5afb03a62e935803486bc2b64fb78";
-    assert_eq!(hex(&bytes[21_108..]), sum);
+    let sum = "093cbe8ff18a41acd0e9b9dcd1265b05a2bee7ec8a21e43145877f1e00a50ba9";
+    assert_eq!(hex(&bytes[28_020..]), sum);
 }
 
 #[test]
@@ -268,22 +268,23 @@ fn a_right_checksum_is_not_enough() {
         (with(&|bytes| bytes[21_000] ^= 1), 0),
         (with(&|bytes| bytes[0] = b'd'), 1),
         (with(&|bytes| put(bytes, 8, 0)), 2),
-        (with(&|bytes| put(bytes, 8, 2)), 2),
+        (with(&|bytes| put(bytes, 8, 1)), 2),
+        (with(&|bytes| put(bytes, 8, 3)), 2),
         (with(&|bytes| put(bytes, 8, u32::MAX)), 2),
         // lengths that don't add up, what should be 0, and nothing at all between head and checksum
-        (with(&|bytes| put(bytes, 48, 33)), 4),
-        (with(&|bytes| put(bytes, 52, 2_309)), 4),
+        (with(&|bytes| put(bytes, 48, 753)), 4),
+        (with(&|bytes| put(bytes, 52, 2_437)), 4),
         (with(&|bytes| put(bytes, 56, u32::MAX)), 4),
         (with(&|bytes| put(bytes, 60, 1)), 4),
         (with(&|bytes| bytes.push(0)), 4),
         (with(&|bytes| bytes.truncate(64)), 4),
         (with(&|bytes| bytes.truncate(63)), 4),
         (with(&|bytes| bytes.truncate(16)), 4),
-        // 35 * 8 + 2,300 + 2,308 * 8 are as many as 34 * 8 + 2,308 + 2,308 * 8
+        // 755 * 8 + 2,428 + 2,436 * 8 are as many as 754 * 8 + 2,436 + 2,436 * 8
         (
             with(&|bytes| {
-                put(bytes, 48, 35);
-                put(bytes, 52, 2_300)
+                put(bytes, 48, 755);
+                put(bytes, 52, 2_428)
             }),
             6,
         ),
@@ -318,7 +319,7 @@ fn the_order() {
         put(bytes, 8, 7); // 2
         bytes[16] ^= 1; // 5
         bytes.drain(64..72);
-        put(bytes, 48, 33); // 6
+        put(bytes, 48, 753); // 6
     });
     let length = bytes.len();
     put(&mut bytes, 12, 3); // 3
@@ -326,7 +327,7 @@ fn the_order() {
     let mut states = vec![(bytes.clone(), 1)];
     bytes[0] = b'D';
     states.push((bytes.clone(), 2));
-    put(&mut bytes, 8, 1);
+    put(&mut bytes, 8, 2);
     states.push((bytes.clone(), 3));
     put(&mut bytes, 12, length as u32);
     states.push((bytes.clone(), 4));
@@ -339,7 +340,7 @@ fn the_order() {
     // a version can be told of 12 bytes
     let mut short = good[..12].to_vec();
     states.push((short.clone(), 3));
-    short[8] = 2;
+    short[8] = 1;
     states.push((short, 2));
     states.push((good, 0));
     answered(&image, states.into_iter());
@@ -361,7 +362,7 @@ fn random_states_come_back() {
     let image = rule();
     let mut random = Random::new(23);
     let states: Vec<State> = (0..40)
-        .map(|_| random_state(&mut random, [34, 2_308, 2_308]))
+        .map(|_| random_state(&mut random, [754, 2_436, 2_436]))
         .collect();
     for state in &states {
         let back = State::from_bytes(&image, &state.to_bytes(&image)).unwrap();
@@ -383,12 +384,14 @@ fn states_of_other_sizes_are_written_and_refused() {
     let mut states = Vec::new();
     for sizes in [
         [0, 0, 0],
-        [33, 2_308, 2_308],
-        [35, 2_308, 2_308],
-        [34, 2_307, 2_308],
-        [34, 2_308, 2_309],
-        [34, 0, 0],
-        [35, 2_300, 2_308],
+        [753, 2_436, 2_436],
+        [755, 2_436, 2_436],
+        [754, 2_435, 2_436],
+        [754, 2_436, 2_437],
+        [754, 0, 0],
+        [755, 2_428, 2_436],
+        // those of version 1
+        [34, 2_308, 2_308],
         [100, 5_000, 5_000],
     ] {
         let bytes = random_state(&mut random, sizes).to_bytes(&image);
@@ -441,10 +444,15 @@ fn texts() {
     let said = |bytes: &[u8]| State::from_bytes(&image, bytes).unwrap_err().to_string();
     assert_eq!(said(b""), "no stored state: it doesn't begin with DMSTATE");
     let mut bytes = good.clone();
-    bytes[8] = 2;
+    bytes[8] = 1;
     assert_eq!(
         said(&bytes),
-        "a stored state of version 2, and version 1 is the one that is read here"
+        "a stored state of version 1, which 0.2.0 wrote, and version 2 is the one that is read here"
+    );
+    bytes[8] = 3;
+    assert_eq!(
+        said(&bytes),
+        "a stored state of version 3, and version 2 is the one that is read here"
     );
     assert_eq!(
         said(&good[..15]),
@@ -452,13 +460,13 @@ fn texts() {
     );
     assert_eq!(
         said(&good[..16]),
-        "a stored state that is cut off: 16 bytes, and it says 21140"
+        "a stored state that is cut off: 16 bytes, and it says 28052"
     );
     let mut bytes = good.clone();
     bytes.push(b'\n');
     assert_eq!(
         said(&bytes),
-        "a stored state that is longer than it says: 21141 bytes, and it says 21140"
+        "a stored state that is longer than it says: 28053 bytes, and it says 28052"
     );
     let mut bytes = good.clone();
     bytes[16] = 0;
@@ -474,7 +482,7 @@ fn texts() {
     state.words.pop();
     assert_eq!(
         said(&state.to_bytes(&image)),
-        "a stored state of other sizes than a machine's: 34 frames, 2308 kinds, 2307 words, and not 34, 2308, 2308"
+        "a stored state of other sizes than a machine's: 754 frames, 2436 kinds, 2435 words, and not 754, 2436, 2436"
     );
     assert_eq!(number(&image, &good), 0);
     assert_eq!(number(&image, &good[1..]), 1);

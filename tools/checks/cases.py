@@ -22,10 +22,10 @@ SLICES = dict(zip('tckwx', STORAGE))
 
 
 def case(name, wants, protos, changes=(), lend='11111'):
-    """protos: (registers, constants, instructions, parameters = 0). wants: number, prototype, instruction, by hand."""
+    """protos: (registers, constants, instructions, parameters = 0, descriptors = ()). wants: number, prototype, instruction, by hand."""
     assert name not in NAMES, name
     NAMES.add(name)
-    image = printed([Prototype(registers, *(parameters or [0]), constants, code) for registers, constants, code, *parameters in protos])
+    image = printed([prototype(*proto) for proto in protos])
     m = Machine(beyond=1)
     assert m.read(image) == (0, len(protos)), name
     for letter, cell, value in changes:
@@ -34,6 +34,10 @@ def case(name, wants, protos, changes=(), lend='11111'):
     assert m.check() == wants, (name, m.check(), wants)
     LIST.append('# ' + name + '\n' + image + ''.join('=%s%05d:%016x\n' % change for change in changes) + '.' + lend + '\n')
     ANSWERS.append('# %s\n%d %d %d \n' % (name, *wants))
+
+
+def prototype(registers, constants, code, parameters=0, descriptors=()):
+    return Prototype(registers, parameters, constants, code, descriptors)
 
 
 NIL = b'\0'
@@ -162,9 +166,19 @@ def jumps():
     single('299 of 300', 14, name, 0, 255, *offset(299), n=300)
     single('-300 from the last of 300', 0, name, 0, 255, *offset(-300), p=299, n=300)
     single('-301 from the last of 300', 14, name, 0, 255, *offset(-301), p=299, n=300)
-    single('close 254', 10, name, 0, 254, 0, 0)
-    single('close 0', 10, name, 0, 0, 0, 0)
-    single('10 and 14', 10, name, 0, 0, *offset(2))
+    single('close 0', 0, name, 0, 0, 0, 0)
+    single('close the last register', 0, name, 0, 3, 0, 0)
+    single('close at R', 12, name, 0, 4, 0, 0)
+    single('close 254', 12, name, 0, 254, 0, 0)
+    single('close 253 of 254', 0, name, 0, 253, 0, 0, registers=254)
+    single('close 254 of 254', 12, name, 0, 254, 0, 0, registers=254)
+    single('close 254 of 255', 0, name, 0, 254, 0, 0, registers=255)
+    single('close none of 255', 0, name, 0, 255, 0, 0, registers=255)
+    single('close none of 1', 0, name, 0, 255, 0, 0, registers=1)
+    single('close, to itself', 0, name, 0, 0, *offset(-1), n=1)
+    single('close, one past the last', 14, name, 0, 3, *offset(2), n=3)
+    single('12 and 14', 12, name, 0, 4, *offset(2))
+    single('11 and 12', 11, name, 1, 4, 0, 0)
     single('11 and 14', 11, name, 4, 255, *offset(2))
     flags_and_unused(name, 255, 0, 0, 2, False)
     name = 'NumericForPrep'
@@ -258,6 +272,126 @@ def closures():
     flags_and_unused('Closure', 0, 0, 0, 2, True)
 
 
+def upvalues():
+    """GetUpValue a dest, b upvalue; SetUpValue a upvalue, b source: no flags, c unused. In prototype 1, whose descriptors no Closure names."""
+    plain = (1, [], [RETURN])
+
+    def inside(what, wants, name, flags, register, upvalue, c, p=0, n=2, registers=4, count=3):
+        code = [RETURN] * n
+        code[p] = instruction(name, *((register, upvalue) if name == 'GetUpValue' else (upvalue, register)), c, flags)
+        case('%s: %s' % (name, what), (wants, 1, p) if wants else (0, 0, 0), [plain, (registers, [], code, 0, [(1, 255)] * count)])
+
+    for name in ('GetUpValue', 'SetUpValue'):
+        inside('the last register and upvalue', 0, name, 0, 3, 2, 0)
+        inside('the first register and upvalue', 0, name, 0, 0, 0, 0)
+        inside('register at R', 12, name, 0, 4, 0, 0)
+        inside('register 255', 12, name, 0, 255, 0, 0)
+        inside('register 254 of 255', 0, name, 0, 254, 0, 0, registers=255)
+        inside('upvalue at the count', 16, name, 0, 0, 3, 0)
+        inside('upvalue 255', 16, name, 0, 0, 255, 0)
+        inside('upvalue 7 of 8', 0, name, 0, 0, 7, 0, count=8)
+        inside('upvalue 8 of 8', 16, name, 0, 0, 8, 0, count=8)
+        inside('the only upvalue', 0, name, 0, 0, 0, 0, count=1)
+        inside('no upvalue', 16, name, 0, 0, 0, 0, count=0)
+        inside('an upvalue that is no register', 0, name, 0, 0, 2, 0, registers=1)
+        inside('a register that is no upvalue', 0, name, 0, 3, 0, 0, count=1)
+        inside('nothing after it', 14, name, 0, 0, 0, 0, n=1)
+        inside('last of three', 14, name, 0, 0, 0, 0, p=2, n=3)
+        inside('flag 1', 11, name, 1, 0, 0, 0)
+        inside('flag 2', 11, name, 2, 0, 0, 0)
+        inside('flag 128', 11, name, 128, 0, 0, 0)
+        inside('c is 1', 11, name, 0, 0, 0, 1)
+        inside('c is 255', 11, name, 0, 0, 0, 255)
+        inside('11 and 12', 11, name, 0, 4, 0, 1)
+        inside('11 and 16', 11, name, 0, 0, 3, 1)
+        inside('12 and 16', 12, name, 0, 4, 3, 0)
+        inside('14 and 16', 14, name, 0, 0, 3, 0, n=1)
+        inside('16 in the middle', 16, name, 0, 0, 3, 0, p=1, n=3)
+        single('in prototype 0', 16, name, 0, 0, 0, 0)
+        single('in prototype 0, not the first', 16, name, 0, 0, 0, 0, p=1, n=3)
+        case('%s: upvalues are those of its own prototype' % name, (16, 2, 0), [
+            plain, (1, [], [instruction(name, 0, 0), RETURN], 0, [(0, 0)]), (1, [], [instruction(name, 0, 0), RETURN])])
+
+
+def captures():
+    """"each descriptor in range of every prototype that names it in a Closure": a child in its parent, by an instruction of the parent's."""
+    def child(*descriptors):
+        return 1, [], [RETURN], 0, descriptors
+
+    def parent(q, registers=4, count=0, p=0, n=2):
+        code = [RETURN] * n
+        code[p] = instruction('Closure', 0, q)
+        return registers, [], code, 0, [(1, 200)] * count
+
+    plain = (1, [], [RETURN])
+    for what, wants, registers, descriptors in (
+            ('register 0', 0, 4, [(0, 0)]), ('the last register', 0, 4, [(0, 3)]), ('a register at R', 16, 4, [(0, 4)]), ('register 255', 16, 4, [(0, 255)]),
+            ('register 254 of 255', 0, 255, [(0, 254)]), ('register 255 of 255', 16, 255, [(0, 255)]), ('register 1 of 1', 16, 1, [(0, 1)]),
+            ('one register twice', 0, 4, [(0, 3), (0, 3)]), ('the second at R', 16, 4, [(0, 3), (0, 4)]), ('the first at R', 16, 4, [(0, 4), (0, 3)]),
+            ('8 registers', 0, 8, [(0, r) for r in range(8)]), ('the last of 8 at R', 16, 8, [(0, r + 1) for r in range(8)]),
+            ('an upvalue of prototype 0', 16, 4, [(1, 0)]), ('a register, then an upvalue of prototype 0', 16, 4, [(0, 0), (1, 0)]),
+            ('none', 0, 4, [])):
+        case('Closure captures: %s' % what, (wants, 0, 0), [parent(1, registers), child(*descriptors)])
+    for what, wants, count, descriptors in (
+            ('upvalue 0 of 1', 0, 1, [(1, 0)]), ('upvalue 1 of 1', 16, 1, [(1, 1)]), ('upvalue 0 of none', 16, 0, [(1, 0)]), ('upvalue 7 of 8', 0, 8, [(1, 7)]),
+            ('upvalue 8 of 8', 16, 8, [(1, 8)]), ('upvalue 255', 16, 8, [(1, 255)]), ('upvalue 2 of 3, register 3 of 4', 0, 3, [(1, 2), (0, 3)]),
+            ('upvalue 3 of 3, register 3 of 4', 16, 3, [(1, 3), (0, 3)]), ('upvalue 2 of 3, register 4 of 4', 16, 3, [(1, 2), (0, 4)]),
+            ('a number that is a register and no upvalue', 16, 2, [(1, 3)]), ('a number that is an upvalue and no register', 16, 6, [(0, 5)]),
+            ('8 upvalues', 0, 8, [(1, u) for u in range(8)]), ('the last of 8 upvalues is none', 16, 7, [(1, u) for u in range(8)])):
+        case('Closure captures in prototype 1: %s' % what, (wants, 1 if wants else 0, 0), [plain, parent(2, count=count), child(*descriptors)])
+    case('Closure captures: its own prototype', (0, 0, 0), [plain, (4, [], [instruction('Closure', 0, 1), RETURN], 0, [(0, 3), (1, 1)])])
+    case('Closure captures: its own prototype, a register at R', (16, 1, 0), [plain, (4, [], [instruction('Closure', 0, 1), RETURN], 0, [(0, 4), (1, 1)])])
+    case('Closure captures: its own prototype, an upvalue at the count', (16, 1, 0), [
+        plain, (4, [], [instruction('Closure', 0, 1), RETURN], 0, [(0, 3), (1, 2)])])
+    case('Closure captures: by two prototypes, in range of both', (0, 0, 0), [parent(2, 4), parent(2, 3), child((0, 2))])
+    case('Closure captures: by two prototypes, out of range of the second', (16, 1, 0), [parent(2, 4), parent(2, 2), child((0, 2))])
+    case('Closure captures: by two prototypes, out of range of the first', (16, 0, 0), [parent(2, 2), parent(2, 4), child((0, 2))])
+    case('Closure captures: an earlier prototype', (16, 2, 0), [plain, child((0, 2)), parent(1, 2)])
+    case('Closure captures: an earlier prototype, in range', (0, 0, 0), [plain, child((0, 1)), parent(1, 2)])
+    case('Closure captures: where nothing reaches it', (16, 0, 1), [parent(1, 2, p=1, n=3), child((0, 2))])
+    case('Closure captures: the second of two', (16, 0, 1), [
+        (2, [], [instruction('Closure', 0, 1), instruction('Closure', 0, 2), RETURN]), child((0, 1)), child((0, 2))])
+    case('descriptors that no Closure names', (0, 0, 0), [plain, child((0, 255), (1, 255))])
+    case('descriptors that only a Closure of another prototype number names', (0, 0, 0), [parent(2), child((0, 255), (1, 255)), child((0, 3))])
+    case('Closure captures: 15 and 16', (15, 0, 0), [(4, [], [instruction('Closure', 0, 1), RETURN], 0, [(0, 0)])])
+    case('Closure captures: 12 and 16', (12, 0, 0), [(2, [], [instruction('Closure', 2, 1), RETURN]), child((0, 2))])
+    case('Closure captures: 11 and 16', (11, 0, 0), [(2, [], [instruction('Closure', 0, 1, 1), RETURN]), child((0, 2))])
+    case('Closure captures: 14 and 16', (14, 0, 0), [(2, [], [instruction('Closure', 0, 1)]), child((0, 2))])
+    case('16 before 10 of the next instruction', (16, 0, 0), [(2, [], [instruction('Closure', 0, 1), (39, 0, 0, 0, 0), RETURN]), child((0, 2))])
+    case('10 before 16 of the next instruction', (10, 0, 0), [(2, [], [(39, 0, 0, 0, 0), instruction('Closure', 0, 1), RETURN]), child((0, 2))])
+
+
+def on_prototype_0():
+    """"no descriptors on prototype 0", 16 "on prototype 0 at instruction 0"."""
+    plain = (1, [], [RETURN])
+    bad = (39, 0, 0, 0, 0)
+
+    def first(*code, descriptors=((0, 0),)):
+        return 2, [NIL], list(code), 0, descriptors
+
+    case('prototype 0 has a descriptor', (16, 0, 0), [first(RETURN)])
+    case('prototype 0 has 8 descriptors', (16, 0, 0), [first(RETURN, descriptors=[(1, 0)] * 8)])
+    case('prototype 0 has a descriptor, and one that is read', (16, 0, 0), [first(instruction('GetUpValue', 0, 0), RETURN)])
+    case('prototype 0 has a descriptor, and no instructions: 14', (14, 0, 0), [first()])
+    case('prototype 0 has a descriptor: 10 and 16', (10, 0, 0), [first(bad, RETURN)])
+    case('prototype 0 has a descriptor: 11 and 16', (11, 0, 0), [first((12, 1, 0, 0, 0))])
+    case('prototype 0 has a descriptor: 12 and 16', (12, 0, 0), [first((12, 0, 0, 3, 0))])
+    case('prototype 0 has a descriptor: 13 and 16', (13, 0, 0), [first((1, 0, 0, 0, 1), RETURN)])
+    case('prototype 0 has a descriptor: 14 and 16', (14, 0, 0), [first((0, 0, 0, 0, 0))])
+    case('prototype 0 has a descriptor: 15 and 16', (15, 0, 0), [first((17, 0, 0, 1, 0), RETURN)])
+    case('prototype 0 has a descriptor, and a bad second instruction', (16, 0, 0), [first(RETURN, bad)])
+    case('prototype 0 has a descriptor, and prototype 1 a bad instruction', (16, 0, 0), [first(RETURN), (1, [], [bad])])
+    case('prototype 0 has a descriptor, and prototype 1 no instructions', (16, 0, 0), [first(RETURN), (1, [], [])])
+    case('prototype 0 has a descriptor, and a Closure of it elsewhere', (16, 0, 0), [first(RETURN), (1, [], [(17, 0, 0, 0, 0), RETURN])])
+    case('prototype 0 has none, and a Closure of it elsewhere', (0, 0, 0), [plain, (1, [], [(17, 0, 0, 0, 0), RETURN], 0, [(0, 0)])])
+    case('by the table prototype 0 has a descriptor', (16, 0, 0), [plain], [('t', 133, 1)])
+    case('by the table prototype 0 has none', (0, 0, 0), [first(RETURN)], [('t', 133, 0)])
+    case('by the table the child has one descriptor fewer, and it is in range', (0, 0, 0), [
+        (2, [], [(17, 0, 0, 1, 0), RETURN]), (1, [], [RETURN], 0, [(0, 1), (0, 2)])], [('t', 142, 1)])
+    case('by the table the child has a descriptor out of range', (16, 0, 0), [
+        (2, [], [(17, 0, 0, 1, 0), RETURN]), (1, [], [RETURN], 0, [(0, 1)])], [('t', 143, 2)])
+
+
 def not_carried():
     for operation in range(256):
         if operation not in OPERATIONS:
@@ -343,9 +477,39 @@ def storages():
     case('6: one instruction more than an image can say', (6, 0, 0), pair, [('t', 8, 4096), ('t', 12, 4096 + 944)])
 
 
+def stored_descriptors():
+    """Of prototype q the number of descriptors stands at 133 + 9 * q, they behind it. No Closure names these prototypes."""
+    plain, rich = (1, [], [RETURN]), (1, [], [RETURN], 0, [(0, 7), (1, 3)])
+    case('descriptors of a prototype that no Closure names', (0, 0, 0), [plain, rich])
+    for count, number in ((0, 0), (1, 0), (3, 0), (8, 0), (9, 6), (10, 6), (32, 6), (255, 6), (2**32, 6), (2**63, 6), (2**64 - 1, 6)):
+        case('%d descriptors by the table' % count, (number, 0, 0), [plain, rich], [('t', 142, count)])
+    for word, number in ((0, 0), (255, 0), (256, 0), (511, 0), (512, 6), (513, 6), (768, 6), (2**16, 6), (2**32, 6), (2**63, 6), (2**64 - 1, 6)):
+        for i in (0, 1):
+            case('descriptor %d is %d' % (i, word), (number, 0, 0), [plain, rich], [('t', 143 + i, word)])
+        case('a spare descriptor is %d' % word, (0, 0, 0), [plain, rich], [('t', 145, word)])
+        case('the last spare descriptor is %d' % word, (0, 0, 0), [plain, rich], [('t', 150, word)])
+    full = (1, [], [RETURN], 0, [(1, 255)] * 8)
+    case('8 descriptors, all upvalue 255', (0, 0, 0), [plain, full])
+    case('6: the eighth descriptor is 512', (6, 0, 0), [plain, full], [('t', 150, 512)])
+    case('the eighth descriptor is 512, and they are 7', (0, 0, 0), [plain, full], [('t', 142, 7), ('t', 150, 512)])
+    case('6: 9 descriptors of the first prototype', (6, 0, 0), [plain, rich], [('t', 133, 9)])
+    case('the number of descriptors of a prototype behind the last', (0, 0, 0), [plain, rich], [('t', 151, 9)])
+    case('all numbers of descriptors behind the last prototype', (0, 0, 0), [plain, rich], [('t', 133 + 9 * q, 2**64 - 1) for q in range(2, 32)])
+    case('6: 9 descriptors of the last of 32 prototypes', (6, 0, 0), [plain] * 32, [('t', 412, 9)])
+    case('6: a descriptor of the last of 32 prototypes is 512', (6, 0, 0), [plain] * 32, [('t', 412, 8), ('t', 420, 512)])
+    case('8 descriptors of the last of 32 prototypes', (0, 0, 0), [plain] * 32, [('t', 412, 8), ('t', 420, 511)])
+    case('6 before 14, 9 descriptors', (6, 0, 0), [plain, (1, [], [])], [('t', 142, 9)])
+    case('5 before 6, 9 descriptors', (5, 0, 0), [plain, rich], [('t', 142, 9)], lend='01111')
+    pair = [plain, plain]
+    long = [('t', 8, 4096), ('t', 12, 4096 + 943)]
+    case('the longest two prototypes, and a descriptor, that an image can say', (14, 0, 4095), pair, [*long, ('t', 142, 1)])
+    case('6: one descriptor more than an image can say', (6, 0, 0), pair, [*long, ('t', 142, 2)])
+
+
 def main():
     check = checking(__doc__)
-    for group in (searches, unary, loads, calls, jumps, tests, binaries, closures, not_carried, storages):
+    for group in (searches, unary, loads, calls, jumps, tests, binaries, closures, upvalues, captures, on_prototype_0, not_carried, storages,
+                  stored_descriptors):
         group()
     keep('checks', ''.join(LIST), ''.join(ANSWERS), check)
     print('%d cases' % len(ANSWERS))

@@ -36,11 +36,12 @@ def digest(front, fill, count):
 
 
 def digest_of_slice(name, front):
-    """Of a slice that has `front` and a cell more than its size; a cell of 64 bits is two numbers."""
-    cells = STORAGE[name] + 1
+    """Of a slice that has `front` and a cell more than its size; a cell of 64 bits is two numbers. What is None in `front` is as it was lent."""
+    cells, half_filled = STORAGE[name] + 1, int.from_bytes([FILL] * 4, 'big')
     if name in OF_BYTES:
         return digest(front, FILL, cells)
-    return digest([half for cell in front for half in divmod(cell, 2**32)], int.from_bytes([FILL] * 4, 'big'), 2 * cells)
+    halves = [half for cell in front for half in ((half_filled, half_filled) if cell is None else divmod(cell, 2**32))]
+    return digest(halves, half_filled, 2 * cells)
 
 
 def answered(image, storage):
@@ -72,7 +73,7 @@ def case(name, *pieces, storage='11111', wants=None, length=None):
     CASES.append((name, pieces, storage, answer))
 
 
-A0, C0, NIL = 'a00100\n', 'c00000000000\n', 'b000\n'
+A0, C0, D1, NIL = 'a00100\n', 'c00000000000\n', 'd10000\n', 'b000\n'
 SESSION = 'a00100\nb0020000000000000007\nc00100000000\nc00c00000100\ne001\n'
 
 
@@ -184,6 +185,58 @@ def order():
     case('a wrong instruction before any a0', 'c0\n', wants=(2, 0))
 
 
+def descriptors():
+    """Document 02, 6/12: "00 and a parent's register, or 01 and the parent's upvalue number", "between a0 and its constants, at most 8 (3)"."""
+    case('d1: a register of the parent', A0, D1, C0, end(1), wants=(0, 1))
+    case('d1: an upvalue of the parent', A0, 'd10100\n', C0, end(1), wants=(0, 1))
+    case('d1: of a prototype without constants and instructions', A0, D1, end(1), wants=(0, 1))
+    case('d1: before constants and instructions', A0, 'd10007\n', 'd10103\n', NIL, string(3), C0, C0, end(1), wants=(0, 1))
+    case('d1: two are one', A0, 'd10005\n', 'd10005\n', C0, end(1), wants=(0, 1))
+    case('d1: of the second prototype', A0, C0, A0, 'd10105\n', NIL, C0, end(2), wants=(0, 2))
+    case('d1: of the first prototype only', A0, 'd10105\n', NIL, C0, A0, C0, end(2), wants=(0, 2))
+    case('d1: the next prototype behind descriptors alone', A0, D1, A0, 'd10101\n', end(2), wants=(0, 2))
+    for number in (0, 1, 127, 128, 254, 255):
+        case('d1: register %d' % number, A0, 'd100%02x\n' % number, end(1), wants=(0, 1))
+        case('d1: upvalue %d' % number, A0, 'd101%02x\n' % number, end(1), wants=(0, 1))
+    for kind in (2, 3, 16, 127, 128, 255):
+        case('d1: first byte %d' % kind, A0, 'd1%02x00\n' % kind, end(1), wants=(2, 1))
+    for n in (0, 1, 3, 4, 5, 20):
+        case('d1: %d bytes' % n, A0, 'd1' + '00' * n + '\n', end(1), wants=(2, 1))
+    case('d1: before any a0', D1, A0, end(1), wants=(2, 0))
+    case('d1: wrong, before any a0', 'd102\n', A0, end(1), wants=(2, 0))
+    case('d1: after b0', A0, NIL, D1, end(1), wants=(2, 2))
+    case('d1: after c0', A0, C0, D1, end(1), wants=(2, 2))
+    case('d1: after b0 and c0', A0, NIL, C0, D1, end(1), wants=(2, 3))
+    case('d1: once more after b0', A0, D1, NIL, 'd10100\n', end(1), wants=(2, 3))
+    case('d1: once more after c0', A0, D1, C0, D1, end(1), wants=(2, 3))
+    case('d1: after b0 of the second prototype', A0, NIL, C0, A0, NIL, D1, end(2), wants=(2, 5))
+    case('d1: after c0 of the second prototype', A0, C0, A0, C0, D1, end(2), wants=(2, 4))
+    case('d1: after e0', SESSION, D1, wants=(4, 5))
+    case('d1: instead of e0', A0, D1, wants=(4, 2))
+    case('d1: lacks its LF', A0, D1[:-1], wants=(1, 1))
+    case('d1: an uppercase digit', A0, 'D10000\n', end(1), wants=(1, 1))
+    case('d1: an uppercase digit in its number', A0, 'd1000A\n', end(1), wants=(1, 1))
+    case('d1: odd digits', A0, 'd1000\n', end(1), wants=(1, 1))
+    case('d1: five digits', A0, 'd10000\n'[:-2] + '\n', end(1), wants=(1, 1))
+    for n in range(2, 9):
+        case('d1: %d of them' % n, A0, *['d1%02x%02x\n' % (i % 2, 16 * n + i) for i in range(n)], NIL, C0, end(1), wants=(0, 1))
+    case('d1: the ninth', A0, (9, D1), end(1), wants=(3, 9))
+    case('d1: the ninth, then a bad line', A0, (9, D1), 'x\n', wants=(3, 9))
+    case('d1: the ninth has first byte 2', A0, (8, D1), 'd10200\n', end(1), wants=(2, 9))
+    case('d1: the ninth is too short', A0, (8, D1), 'd100\n', end(1), wants=(2, 9))
+    case('d1: the ninth has odd digits', A0, (8, D1), 'd1000\n', end(1), wants=(1, 9))
+    case('d1: the ninth stands after a constant', A0, (8, D1), NIL, D1, end(1), wants=(2, 10))
+    case('d1: the ninth stands after an instruction', A0, (8, D1), C0, D1, end(1), wants=(2, 10))
+    case('d1: they start anew with each prototype', A0, (8, D1), A0, (8, 'd101ff\n'), A0, (8, 'd10003\n'), C0, end(3), wants=(0, 3))
+    case('d1: the ninth of the second prototype', A0, (8, D1), A0, (9, D1), end(2), wants=(3, 18))
+    case('d1: 8 of each of 32 prototypes', *[line for q in range(32) for line in (A0, *['d1%02x%02x\n' % ((q + i) % 2, 8 * q + i) for i in range(8)])],
+         end(32), wants=(0, 32))
+    case('d1: of each second of 32 prototypes', *[line for q in range(16) for line in (A0, (q % 8 + 1, 'd100%02x\n' % q), NIL, A0, C0)], end(32),
+         wants=(0, 32))
+    case('d1: 8 of the last of 32 prototypes', (31, A0), A0, (8, 'd101ff\n'), end(32), wants=(0, 32))
+    case('d1: beside 256 constants and 3,000 instructions', A0, (8, 'd100fe\n'), (256, NIL), (3000, C0), end(1), wants=(0, 1))
+
+
 def limits():
     case('31 prototypes', (31, A0), end(31), wants=(0, 31))
     case('32 prototypes', (32, A0), end(32), wants=(0, 32))
@@ -221,6 +274,13 @@ def image_length():
          wants=(4, 5043), length=65536)
     case('65,537 bytes, of which the last is a byte after e0', *full, end(2), 'x', wants=(3, 0), length=65537)
     case('65,537 bytes, of which line 0 is bad', 'X', *full, end(2), wants=(3, 0), length=65537)
+    with_descriptors = [A0, (8, D1), (4096, C0), A0]
+    case('65,536 bytes, d1 among them', *with_descriptors, (2, NIL), string(2), (938, C0), end(2), wants=(0, 2), length=65536)
+    case('65,535 bytes, d1 among them', *with_descriptors, NIL, string(4), (938, C0), end(2), wants=(0, 2), length=65535)
+    case('65,537 bytes, d1 among them', *with_descriptors, (4, NIL), (938, C0), end(2), wants=(3, 0), length=65537)
+    case('one d1 too many for 65,536 bytes', A0, (4096, C0), A0, (2, D1), (943, C0), end(2), wants=(3, 0), length=65540)
+    case('one d1 fewer fits', A0, (4096, C0), A0, D1, (943, C0), end(2), wants=(0, 2), length=65533)
+    case('65,535 bytes of d1', A0, (9361, D1), 'x', wants=(3, 9), length=65535)
     case('65,536 bytes, no LF', (65536, 'a'), wants=(1, 0))
     case('65,537 bytes, no LF', (65537, 'a'), wants=(3, 0))
     case('65,536 LFs', (65536, '\n'), wants=(1, 0))
@@ -253,6 +313,28 @@ def some_line(rng):
     return 'c0' + rng.randbytes(5).hex()
 
 
+def drawn_descriptors():
+    rng = random.Random(20260612)
+    for i in range(60):
+        body = []
+        protos = rng.randrange(1, 6)
+        for _ in range(protos):
+            registers = rng.randrange(1, 256)
+            body.append('a0%02x%02x' % (registers, rng.randrange(registers + 1)))
+            body += ['d10%d%02x' % (rng.randrange(2), rng.randrange(256)) for _ in range(rng.randrange(9))]
+            body += ['b002%016x' % rng.getrandbits(64) for _ in range(rng.randrange(3))]
+            body += ['c0' + rng.randbytes(5).hex() for _ in range(rng.randrange(4))]
+        good = lines(*body, 'e0%02x' % protos)
+        case('drawn with d1 %d' % i, good, wants=(0, protos))
+        # a line goes elsewhere, or comes twice
+        to, at = rng.randrange(len(body)), rng.randrange(len(body))
+        moved = body[:at] + body[at + rng.randrange(2):]
+        moved.insert(to, body[at])
+        case('drawn with d1 %d, a line moved' % i, lines(*moved, 'e0%02x' % sum(line[:2] == 'a0' for line in moved)))
+        at = rng.randrange(len(good))
+        case('drawn with d1 %d, changed' % i, good[:at] + rng.choice('0123456789abcdefABg \n\r\0') + good[at + rng.randrange(3):])
+
+
 def drawn():
     rng = random.Random(20250101)
     for i in range(120):
@@ -274,7 +356,7 @@ def drawn():
 
 def main():
     check = checking(__doc__)
-    for group in (accepted, empty_and_end, hexadecimal, fields, order, limits, image_length, sizes, drawn):
+    for group in (accepted, empty_and_end, hexadecimal, fields, order, descriptors, limits, image_length, sizes, drawn, drawn_descriptors):
         group()
     given, wanted = [], []
     for name, pieces, storage, answer in CASES:

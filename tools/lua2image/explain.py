@@ -9,8 +9,8 @@ from collections import namedtuple
 from flow import ENTRY, Flow
 from listing import SIGNS, instruction_line, value
 from luac_image import decoded as decoded_word
-from oracle.answers import (BAD_ARGUMENTS, BAD_END, BAD_FRAME, BAD_LINE, DONE, NO_CONSTANT, NO_FUNCTION, NO_PROTOTYPE, NO_REGISTER, NO_TARGET,
-                            NOT_CARRIED, RUNNING, STRAY_BYTE, TOO_DEEP, TOO_MANY, TOO_WIDE, UNFIT_OPERAND, ZERO_DIVISOR)
+from oracle.answers import (BAD_ARGUMENTS, BAD_END, BAD_FRAME, BAD_LINE, DONE, FEW_CELLS, NO_CONSTANT, NO_ENTRY, NO_FUNCTION, NO_PROTOTYPE,
+                            NO_REGISTER, NO_TARGET, NO_UPVALUE, NOT_CARRIED, RUNNING, STRAY_BYTE, TOO_DEEP, TOO_MANY, TOO_WIDE, UNFIT_OPERAND, ZERO_DIVISOR)
 from oracle.image import CONSTANT, LINE, PAYLOAD, Refused, parse
 from oracle.rules import BINARY, COMPARISONS, OPERATIONS, check
 from oracle.values import BITWISE, BOOLEAN, FUNCTION, INDEX, LEFT, LIMIT, ONLY, RIGHT, STEP
@@ -18,22 +18,27 @@ from oracle.values import BITWISE, BOOLEAN, FUNCTION, INDEX, LEFT, LIMIT, ONLY, 
 UNREAD = {
     BAD_LINE: 'a line that is empty, not paired lowercase hexadecimal, or not ended by LF',
     BAD_FRAME: 'an unknown kind, or a wrong length, tag, order or field',
-    TOO_MANY: 'too many bytes, prototypes, constants or instructions',
+    TOO_MANY: 'too many bytes, prototypes, descriptors, constants or instructions',
     BAD_END: 'no e0 line at the end, or a byte after it',
 }
 UNCHECKED = {
-    NOT_CARRIED: "an operation that isn't carried, a count of 255, or a jump that closes",
+    NOT_CARRIED: "an operation that isn't carried, or a count of 255",
     STRAY_BYTE: "an unused byte or flag that isn't 0, or a yes/no byte above 1",
     NO_REGISTER: "a register that the prototype doesn't have",
     NO_CONSTANT: "a constant that the prototype doesn't have",
     NO_TARGET: "the next instruction may be one that isn't there",
     NO_PROTOTYPE: "a prototype that isn't in the image",
+    NO_UPVALUE: "an upvalue or a descriptor that isn't there, or descriptors of prototype 0",
 }
 REFUSALS = {**UNREAD, **UNCHECKED}
 OF_CALLS = {
     NO_FUNCTION: 'a call of what is no function',
     TOO_DEEP: 'more than 16 calls inside one another, the main program counted',
     TOO_WIDE: 'a call that would pass 2,048 registers in all running functions',
+}
+OF_CLOSURES = {
+    NO_ENTRY: 'more than 64 functions made',
+    FEW_CELLS: 'more than 128 variables that functions hold',
 }
 LOOPS = ('NumericForPrep', 'NumericForLoop')
 # luac turns a > b into b < a: what the machine names is then on the other side in the source.
@@ -142,6 +147,8 @@ def origin(function, p, register):
         return None
     place, = found
     name, _, b, _ = decoded_word(function.code[place])
+    if name == 'GETUPVAL':
+        return function.upvalue_names[b]
     return function.put_in.get(place) or (local(function, place, b) if name == 'MOVE' else None)
 
 
@@ -168,6 +175,8 @@ def error(result, five, constants, function):
     if name == 'Call' and operand == 0:
         called = variable(function, result.instruction, five.a) if number == NO_FUNCTION else ''
         return ', '.join(filter(None, [OF_CALLS.get(number), called])) or None
+    if name == 'Closure' and operand == 0:
+        return OF_CLOSURES.get(number)
     if operand not in operands(name):
         return None
     it = shown(five, result.instruction, operand, constants, function)

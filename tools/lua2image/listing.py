@@ -4,7 +4,8 @@
     instruction_line(prototypes, q, p, functions)   the line of instruction p of prototype q
 
 The prototypes are those of tools/oracle: a constant is its bytes from the tag on, an instruction its five bytes."""
-from oracle.rules import BINARY, COMPARISONS, OPERATIONS, broken, index, target
+from oracle.image import OF_REGISTER
+from oracle.rules import BINARY, CLOSES_NONE, COMPARISONS, OPERATIONS, broken, index, target
 from oracle.values import BOOLEAN, INTEGER, NIL, NUMBER, double, signed
 
 SIGNS = {
@@ -71,13 +72,17 @@ def in_words(five, q, p, constants):
     if name == 'Return':
         return registers(a, b) or 'no value'
     if name == 'Jump':
-        return jump
+        return jump if a == CLOSES_NONE else 'close from r%d on, %s' % (a, jump)
     if name == 'Test':
         return when(b, 'r%d' % a)
     if name == 'TestSet':
         return when(c, 'r%d' % b) + ', else r%d = r%d' % (a, b)
     if name == 'Closure':
         return 'r%d = prototype %d' % (a, b)
+    if name == 'GetUpValue':
+        return 'r%d = u%d' % (a, b)
+    if name == 'SetUpValue':
+        return 'u%d = r%d' % (a, b)
     if name == 'NumericForPrep':
         return 'r%d = r%d - r%d, %s' % (a, a, a + 2, jump)
     return 'r%d = r%d + r%d, unless past r%d: r%d = r%d, %s' % (a, a, a + 2, a + 1, a + 3, a, jump)
@@ -95,10 +100,17 @@ def instruction_line(prototypes, q, p, functions=None):
     return '%-8s%s %-15s %s' % ('%d:%d' % (q, p), line, name, words)
 
 
+def upvalues(prototype):
+    """What each of its upvalues is of the function that makes it."""
+    named = ['u%d = %s%d' % (u, 'r' if kind == OF_REGISTER else 'u', number) for u, (kind, number) in enumerate(prototype.descriptors)]
+    return ', upvalues ' + ', '.join(named) if named else ''
+
+
 def listed(prototypes, functions=None):
     lines = []
     for q, prototype in enumerate(prototypes):
         begins = '' if functions is None else ', the main program' if q == 0 else ', the function at line %d' % functions[q].line
-        lines.append('prototype %d%s: registers %d, parameters %d' % (q, begins, prototype.registers, prototype.parameters))
+        lines.append('prototype %d%s: registers %d, parameters %d%s' % (
+            q, begins, prototype.registers, prototype.parameters, upvalues(prototype)))
         lines += [instruction_line(prototypes, q, p, functions) for p in range(len(prototype.instructions))]
     return ''.join(line + '\n' for line in lines)

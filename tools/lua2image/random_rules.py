@@ -1,10 +1,9 @@
-"""Rules made by chance, of functions within functions that use what is outside of them.
+"""Rules made by chance, of functions within functions that use and assign what is outside of them.
 
-    rule(seed)      a source, its arguments as Lua writes them, and whether it is tame
+    rule(seed)      a source, and its arguments as Lua writes them
 
-A name stands for a figure, for any value, or for a function; a function takes how often it may still call, so every rule ends. A tame rule uses from
-outer functions only what is never assigned and holds a function or a constant, and has to be carried. The others do so once with something else, an
-input, a loop's variable, what is worked out or assigned, and most of them have to be refused. Names are few, so that one often hides another."""
+A name stands for a figure, for any value, or for a function; a function takes how often it may still call, so every rule ends. From outer functions
+they use constants, functions, inputs, a loop's variable, what is worked out and what is assigned. Names are few, so that one often hides another."""
 from oracle.dice import Dice
 
 FIGURE, ANY, FUNCTION = 'figure', 'any', 'function'
@@ -16,7 +15,7 @@ MOST_DEPTH, MOST_FUNCTIONS = 4, 20
 
 
 class Name:
-    """level: in how many functions it stands; is_fixed: whether it is never assigned and begins with a function or a constant."""
+    """level: in how many functions it stands; is_fixed: whether it is never assigned."""
 
     def __init__(self, name, kind, level, is_fixed):
         self.name, self.kind, self.level, self.is_fixed = name, kind, level, is_fixed
@@ -25,8 +24,6 @@ class Name:
 class Maker:
     def __init__(self, seed):
         self.dice = Dice(seed)
-        # whether something that isn't fixed may still be used from outside, and whether that was done
-        self.may_stray, self.is_tame = self.dice.chance(2), True
         self.functions, self.labels = 0, 0
         self.lines, self.scopes, self.level = [], [[]], 0
 
@@ -38,24 +35,17 @@ class Maker:
         return found
 
     def visible(self, kind):
-        """The names of a kind that aren't hidden, and may be used here."""
+        """The names of a kind that aren't hidden."""
         latest = {name.name: name for scope in self.scopes for name in scope}
-        return [name for name in latest.values() if name.kind == kind and (name.level == self.level or name.is_fixed or self.may_stray)]
-
-    def used(self, name):
-        if name.level != self.level and not name.is_fixed:
-            self.may_stray = self.is_tame = False
-        return name.name
+        return [name for name in latest.values() if name.kind == kind]
 
     def chosen(self, kind):
         """One of the visible names, most often one of an outer function; None where there is none."""
         names = self.visible(kind)
         outer = [name for name in names if name.level < self.level]
-        stray = [name for name in outer if not name.is_fixed]
-        for some in (stray, outer):
-            if some and not self.dice.chance(3):
-                return self.used(self.dice.pick(some))
-        return self.used(self.dice.pick(names)) if names else None
+        if outer and not self.dice.chance(3):
+            return self.dice.pick(outer).name
+        return self.dice.pick(names).name if names else None
 
     # ---- expressions
 
@@ -97,9 +87,7 @@ class Maker:
     def constant(self):
         kind = self.dice.pick([FIGURE, ANY])
         literal = self.dice.pick(FIGURES if kind == FIGURE else OTHERS)
-        # luac works out the sign of a zero while the rule runs
-        fixed = literal != '-0.0' and not self.dice.chance(3)
-        self.say('local %s = %s' % (self.declare(kind, fixed).name, literal))
+        self.say('local %s = %s' % (self.declare(kind, not self.dice.chance(3)).name, literal))
 
     def constants(self):
         values = [self.dice.pick(OTHERS) for _ in range(1 + self.dice.below(2))]
@@ -113,9 +101,8 @@ class Maker:
         kind = self.dice.pick([FIGURE, ANY, FUNCTION])
         names = self.visible(kind)
         if names:
-            source = self.dice.pick(names)
-            used = self.used(source)
-            self.say('local %s = %s' % (self.declare(kind, source.is_fixed and not self.dice.chance(5)).name, used))
+            source = self.dice.pick(names).name
+            self.say('local %s = %s' % (self.declare(kind, not self.dice.chance(3)).name, source))
 
     def computed(self):
         kind, value = self.dice.pick([
@@ -126,7 +113,7 @@ class Maker:
 
     def assignment(self):
         kind = self.dice.pick([FIGURE, ANY])
-        names = [name for name in self.visible(kind) if not name.is_fixed and name.level == self.level]
+        names = [name for name in self.visible(kind) if not name.is_fixed]
         if names:
             value = self.figure() if kind == FIGURE else self.value()
             self.say('%s = %s' % (self.dice.pick(names).name, value))
@@ -228,4 +215,4 @@ def rule(seed):
     for _ in range(6 + maker.dice.below(8)):
         maker.statement()
     maker.say('return %s, %s' % (', '.join(RESULTS), maker.call()))
-    return '\n'.join(maker.lines) + '\n', arguments, maker.is_tame
+    return '\n'.join(maker.lines) + '\n', arguments

@@ -10,8 +10,8 @@
 import re
 
 from inputs import inputs
-from luac_image import constants_used, decoded, operation, upvalues_used
-from oracle.image import MOST_BYTES, MOST_CONSTANTS, MOST_INSTRUCTIONS, MOST_PROTOTYPES, MOST_STRING_BYTES
+from luac_image import constants_used, decoded, descriptors, operation, upvalues_used
+from oracle.image import MOST_BYTES, MOST_CONSTANTS, MOST_DESCRIPTORS, MOST_INSTRUCTIONS, MOST_PROTOTYPES, MOST_STRING_BYTES
 from oracle.machine import MOST_ARGUMENTS
 from oracle.values import INTEGER, NUMBER, STRING
 
@@ -102,14 +102,6 @@ def of_global(path):
     return NO_GLOBALS % quoted(name) + instead
 
 
-def of_outer(name, sets):
-    if sets:
-        can = "functions can't assign those; return the new value"
-    else:
-        can = 'only functions and constants that are never assigned can be used from there; pass it as an argument'
-    return '%s is a variable of an outer function: %s' % (quoted(name), can)
-
-
 def of_varargs(function, p):
     if function.number:
         return ANY_NUMBER + "functions can't use it; give each parameter a name"
@@ -125,7 +117,7 @@ def of_field(path):
 
 
 def of_upvalue(function, p):
-    """What stands against an instruction that reads or sets an upvalue, or a field of one: globals are fields of _ENV."""
+    """What stands against an instruction that reads or sets _ENV, or a field of an upvalue: globals are fields of _ENV."""
     word = function.code[p]
     name, _, b, _ = decoded(word)
     outer = text(function.upvalue_names[upvalues_used(word)[0]])
@@ -134,9 +126,7 @@ def of_upvalue(function, p):
         if outer != '_ENV':
             return of_field(path)
         return of_global(path) if name == 'GETTABUP' else NO_GLOBALS % quoted(path.lstrip('.')) + 'make it a local'
-    if outer == '_ENV':
-        return of_global(outer)
-    return of_outer(outer, sets=name == 'SETUPVAL')
+    return of_global(outer) if outer == '_ENV' else None
 
 
 def quoted(name):
@@ -203,8 +193,20 @@ def too_many_constants(functions):
             for function in functions if len(function.constants) > MOST_CONSTANTS]
 
 
+def too_many_upvalues(functions):
+    """But for the main function, whose one is _ENV."""
+    found = []
+    for function in functions[1:]:
+        count = len(function.upvalues)
+        if count > MOST_DESCRIPTORS:
+            lines = (line for word, line in zip(function.code, function.lines) if MOST_DESCRIPTORS in upvalues_used(word))
+            found.append((next(lines, line_of(function)), (
+                '%d variables of outer functions in one function, constants not counted: at most 8 are carried; pass some of them as arguments' % count)))
+    return found
+
+
 def objections(functions):
-    found = too_many_constants(functions)
+    found = too_many_constants(functions) + too_many_upvalues(functions)
     for function in functions:
         found += [(line, objection(function, p)) for p, line in enumerate(function.lines)]
     return [(line, message) for line, message in found if message]
@@ -215,7 +217,7 @@ def too_long(functions, image):
         return []
     lines = []
     for function in functions:
-        lines += [line_of(function)] * (1 + len(function.constants)) + function.lines
+        lines += [line_of(function)] * (1 + len(descriptors(function)) + len(function.constants)) + function.lines
     lines.append(lines[-1])
     passed = image.count('\n', 0, MOST_BYTES)
     return [(lines[passed], 'the image passes 65,536 bytes here and has %d: more are not read; make the rule shorter' % len(image))]

@@ -23,7 +23,7 @@ from files import Unusable
 from oracle import machine
 from oracle.dice import Dice
 from oracle.figures import figure
-from oracle.values import NUMBER, double, number
+from oracle.values import NUMBER, boolean, double, number
 from random_rules import rule
 from translation import Refused, translated
 
@@ -32,18 +32,17 @@ EXAMPLES = os.path.join(HERE, '..', '..', 'examples')
 SESSION = os.path.join(TOOLS, 'oracle', 'session')
 RUN_LUA = os.path.join(TOOLS, 'luac', 'run.lua')
 
-# Document 01's operations in the order of their numbers.
-NAMES = dict(zip([*range(0, 4), 10, 12, *range(14, 20), *range(27, 39), *range(40, 45)],
-                 ('Move LoadConstant LoadBool LoadNil Call Return Jump Test TestSet Closure NumericForPrep NumericForLoop Eq Less LessEq Not '
-                  'Minus BitNot Add Sub Mul Div IDiv Mod BitAnd BitOr BitXor ShiftLeft ShiftRight').split()))
+# The documents' operations in the order of their numbers.
+NAMES = dict(zip([*range(0, 4), 10, 12, *range(14, 20), 24, 25, *range(27, 39), *range(40, 45)],
+                 ('Move LoadConstant LoadBool LoadNil Call Return Jump Test TestSet Closure NumericForPrep NumericForLoop GetUpValue SetUpValue Eq Less '
+                  'LessEq Not Minus BitNot Add Sub Mul Div IDiv Mod BitAnd BitOr BitXor ShiftLeft ShiftRight').split()))
 
 NO_GLOBALS = "'%s' is a global: rules can't use globals; "
 INPUT = "give the value to the rule as an input: 'local %s = ...' as its first statement"
 ANY_NUMBER = "'...' stands for any number of values: "
 NOT_FIRST = ANY_NUMBER + "rules can't use it but to name their inputs, with 'local a, b = ...' as the first statement"
 AGAIN = "a loop or a goto leads back to the inputs: a rule takes them once; put 'local a, b = ...' before it"
-OUTER = "'%s' is a variable of an outer function: only functions and constants that are never assigned can be used from there; pass it as an argument"
-OUTER_SET = "'%s' is a variable of an outer function: functions can't assign those; return the new value"
+OUTER = '%d variables of outer functions in one function, constants not counted: at most 8 are carried; pass some of them as arguments'
 
 # Name, source, and every message with its line.
 REFUSALS = (
@@ -88,30 +87,17 @@ REFUSALS = (
     ('inputs in a repeat', 'repeat\n  local a, b = ...\nuntil a', [(2, AGAIN)]),
     ('nine inputs', 'local a, b, c, d, e, f, g, h, i = ...', [
         (1, '9 inputs: a rule takes at most 8; use fewer, or put yes and no together as the bits of an integer')]),
-    ('an input in a function', 'local today, closed = ...\nlocal function age()\n  return today - closed\nend', [
-        (3, OUTER % 'today'), (3, OUTER % 'closed')]),
-    ('upvalue that is assigned before', 'local cutoff = 1\ncutoff = 2\nlocal function old(x)\n  return x > cutoff\nend', [(4, OUTER % 'cutoff')]),
-    ('upvalue that is assigned later', 'local cutoff = 1\nlocal function old(x)\n  return x > cutoff\nend\ncutoff = 2', [(3, OUTER % 'cutoff')]),
-    ('upvalue of one value or another', 'local c\nlocal x = c and 1 or 2\nlocal y = c == 3\nlocal function f()\n  return x, y\nend', [
-        (5, OUTER % 'x'), (5, OUTER % 'y')]),
-    ('upvalue that is worked out', 'local year = 365\nlocal keep = 7 * year\nlocal function f()\n  return keep\nend', [(4, OUTER % 'keep')]),
-    # before the call the registers of its results have the constants 1 and 2
-    ('upvalue that a call gives', (
-        'local function f() return 1, 2 end\ndo local a, b = 1, 2 end\nlocal x, y = f()\nlocal function g()\n  return x, y\nend'), [
-        (5, OUTER % 'x'), (5, OUTER % 'y')]),
-    ('upvalue that is an input or a constant', 'local x = ...\nif x then x = 1 end\nlocal y = x\nlocal function f()\n  return y\nend', [(5, OUTER % 'y')]),
-    ('upvalue that is a parameter', 'local function f(x)\n  return function()\n    return x\n  end\nend', [(3, OUTER % 'x')]),
-    ('upvalue set', 'local n = 1\nlocal function f()\n  n = 2\nend', [(3, OUTER_SET % 'n')]),
-    ('upvalue set beside', 'local n = 1\nlocal function f()\n  n = 2\nend\nlocal function g()\n  return n\nend', [(3, OUTER_SET % 'n'), (6, OUTER % 'n')]),
-    ('upvalue set from deeper', 'local n = 1\nlocal function f()\n  local function g()\n    n = 2\n  end\n  return n\nend', [
-        (4, OUTER_SET % 'n'), (6, OUTER % 'n')]),
-    ('a function that changes', 'local f\nlocal function g()\n  return (f())\nend\nf = function() return 1 end', [(3, OUTER % 'f')]),
-    ('a function that gives way', 'local function f()\n  return f\nend\nf = nil', [(2, OUTER % 'f')]),
+    ('nine upvalues', 'local a, b = ...\nlocal c, d, e, f, g, h, i = a, a, a, a, a, a, a\nlocal function all()\n  return a + b + c + d + e + f + g +\n    h + i\nend', [
+        (5, OUTER % 9)]),
+    ('nine upvalues for a function within', (
+        'local a = ...\nlocal b, c, d, e = a, a, a, a\nlocal f, g, h, i = a, a, a, a\nlocal function outer()\n  return function()\n    return a, b, c, d, e, f, g, h, i\n'
+        '  end\nend'), [(4, OUTER % 9), (6, OUTER % 9)]),
+    ('_ENV as an upvalue', 'local function f()\n  local x = _ENV\n  return x\nend', [
+        (2, NO_GLOBALS % '_ENV' + 'keep each value in a local of its own')]),
+    ('a global for a function within', 'local function f()\n  return function()\n    return cutoff\n  end\nend', [
+        (3, NO_GLOBALS % 'cutoff' + 'make it a local, or ' + INPUT % 'cutoff')]),
     ('upvalue read for its field', 'local t\nlocal function f()\n  return t.x\nend', [
         (3, "'.x' is a field of a table: rules can't use tables; keep each value in a local of its own")]),
-    ('upvalue closed by a loop', 'for i = 1, 2 do\n  local x = i\n  local f = function() return x end\nend', [(3, OUTER % 'x')]),
-    # before the loop its variable's register has the constant 9
-    ('upvalue that a loop counts', 'do local a, b, c, d = 1, 2, 3, 9 end\nfor i = 1, 2 do\n  local f = function() return i end\nend', [(3, OUTER % 'i')]),
     ('concatenation', 'local a = "x"\nreturn a .. "y"', [
         (2, "'..' joins strings: rules can't make strings; return the parts as values of their own")]),
     ('length', 'local a = "x"\nreturn #a', [
@@ -167,6 +153,10 @@ CARRIED = (
     ('a power of constants', 'return 2 ^ 3'),
     ('eight inputs', 'local a, b, c, d, e, f, g, h = ...'),
     ('inputs before a loop', 'local a = ...\n::top::\nif a then goto top end'),
+    ('eight upvalues', 'local a, b = ...\nlocal c, d, e, f, g, h = a, a, a, a, a, a\nlocal function all()\n  return a + b + c + d + e + f + g + h\nend'),
+    ('eight upvalues and constants', (
+        'local a, b = ...\nlocal c, d, e, f, g, h = a, a, a, a, a, a\nlocal year, week, name, on = 365, 7, "x", true\nlocal function all()\n'
+        '  return a + b + c + d + e + f + g + h, year, week, name, on\nend')),
     ('a constant of an outer function that is there already', 'local year = 255.5\nlocal function f(x)\n%s  x = year\nend' % ''.join(
         '  x = %d.5\n' % i for i in range(256))),
 )
@@ -278,7 +268,7 @@ TOLD_ANSWERS = (
     ([' 0x10 ', '1e3', 'nil', '-.5'], 'b0046b656570\nb003c08ec00000000000\nb003bfe0000000000000\n'),
 )
 
-# Helpers that use helpers and constants, of every kind and through several functions; what is closed by a loop needs no closing.
+# Helpers that use helpers and constants, of every kind and through several functions; constants need no closing.
 HELPERS = '''local year, name, on, off, none, half = 365, "x", true, false, nil, 0.5
 local function days(years)
   return years * year
@@ -310,9 +300,12 @@ return kept(2555), kept(2556), factorial(5), sum, a, b, c, d, e, (days(2))
 '''
 HELPERS_LISTED = (
     '1:0     line 3     LoadConstant    r1 = 365\n', '2:0     line 7     LoadConstant    r1 = 52\n',
-    '3:0     line 9     Closure         r1 = prototype 1\n', '3:5     line 9     LoadConstant    r1 = 52\n',
-    '4:4     line 15    Closure         r1 = prototype 4\n', '6:1     line 25    LoadBool        r1 = true\n',
-    '6:3     line 25    LoadNil         r3 = nil\n',
+    'prototype 2, the function at line 6: registers 5, parameters 1, upvalues u0 = r7\n',
+    'prototype 3, the function at line 8: registers 3, parameters 1, upvalues u0 = u0\n',
+    '3:0     line 9     GetUpValue      r1 = u0\n', '3:5     line 9     LoadConstant    r1 = 52\n',
+    'prototype 4, the function at line 13: registers 3, parameters 1, upvalues u0 = r9\n',
+    '4:4     line 15    GetUpValue      r1 = u0\n', '6:1     line 25    LoadBool        r1 = true\n',
+    '6:3     line 25    LoadNil         r3 = nil\n', '0:23    line 22    Jump            go to 0:24\n',
 )
 HELPERS_SAID = '''\
 52
@@ -327,6 +320,34 @@ nil
 730
 '''
 
+# Rules whose functions use and set what is outside of them, with what they are told.
+HOLDING = (
+    ('an input in a function', 'local today, closed = ...\nlocal function age()\n  return today - closed\nend\nreturn (age())', '20407 17531'),
+    ('assigned before', 'local cutoff = 1\ncutoff = 2\nlocal function old(x)\n  return x > cutoff\nend\nreturn (old(2)), (old(3))', ''),
+    ('assigned later', 'local cutoff = 1\nlocal function old(x)\n  return x > cutoff\nend\nlocal a = old(2)\ncutoff = 2\nreturn a, (old(2))', ''),
+    ('one value or another', 'local c = ...\nlocal x = c and 1 or 2\nlocal y = c == 3\nlocal function f()\n  return x, y\nend\nlocal a, b = f()\nreturn a, b', '3'),
+    ('worked out', 'local year = 365\nlocal keep = 7 * year\nlocal function f()\n  return keep\nend\nreturn (f())', ''),
+    ('what a call gives', (
+        'local function f() return 1, 2 end\ndo local a, b = 1, 2 end\nlocal x, y = f()\nlocal function g()\n  return y, x\nend\nlocal a, b = g()\nreturn a, b'), ''),
+    ('an input or a constant', 'local x = ...\nif x then x = 1 end\nlocal y = x\nlocal function f()\n  return y\nend\nreturn (f())', 'true'),
+    ('a parameter', 'local function f(x)\n  return function()\n    return x\n  end\nend\nlocal g = f(7)\nreturn (g())', ''),
+    ('set', 'local n = 1\nlocal function f()\n  n = n + 2\nend\nf()\nf()\nreturn n', ''),
+    ('set beside', 'local n = 1\nlocal function f()\n  n = 2\nend\nlocal function g()\n  return n\nend\nlocal a = g()\nf()\nreturn a, (g())', ''),
+    ('set from deeper', (
+        'local n = 1\nlocal function f()\n  local function g()\n    n = 2\n  end\n  local a = n\n  g()\n  return a, n\nend\nlocal a, b = f()\nreturn a, b'), ''),
+    ('a function that changes', 'local f\nlocal function g()\n  return (f())\nend\nf = function() return 1 end\nlocal a = g()\nf = function() return 2 end\nreturn a, (g())', ''),
+    ('a function that gives way', 'local function f()\n  return f\nend\nlocal g = f\nf = 7\nreturn (g())', ''),
+    ('closed by a loop', 'local k\nfor i = 1, 3 do\n  local x = i\n  local f = function() x = x * 10 return x end\n  if i < 3 then k = f end\nend\nreturn (k()), (k())', ''),
+    ('what a loop counts', (
+        'do local a, b, c, d = 1, 2, 3, 9 end\nlocal k\nfor i = 1, 2 do\n  local f = function() return i end\n  k = k or f\nend\nreturn (k())'), ''),
+    ('a step that is set', 'local step, n = 0, 0\nlocal function f() step = 1 end\nf()\nfor i = 1, 3, step do n = n + i end\nreturn n', ''),
+    ('a constant that is hidden by what is set', (
+        'local x = 1\nlocal function one() return x end\nlocal x = 2\nlocal function two() x = x + one() return x end\nreturn (two()), (two()), (one())'), ''),
+    ('a cut-off that is remembered', (
+        'local today = ...\nlocal function since(day)\n  local asked = 0\n  return function(closed)\n    asked = asked + 1\n    return closed < day, asked\n  end\nend\n'
+        'local old = since(today - 2555)\nlocal a = old(17000)\nlocal b, n = old(20000)\nreturn a, b, n'), '20407'),
+)
+
 # Steps of 0: the source, and the lines that are warned about.
 STEPS = (
     ('for i = 1, 2, 0 do\nend', [1]),
@@ -335,6 +356,9 @@ STEPS = (
     ('for i = 1, 2 do end\nfor i = 2, 1, -1 do end\nfor i = 0, 0, 0.5 do end', []),
     ('local step = 0\nif step == 1 then step = 1 end\nfor i = 1, 2, step do end', []),
     ('local step = ...\nfor i = 1, 2, step do end', []),
+    ('local step = 0\nlocal function f() step = 1 end\nf()\nfor i = 1, 2, step do end', []),
+    ('local step = 0\nlocal function f() step = 1 end\nlocal same = step\nfor i = 1, 2, same do end', []),
+    ('local step = 0\nlocal function f() return step end\nfor i = 1, 2, step do end', [3]),
 )
 NO_STEP = "warning: the step of this 'for' is 0: the loop has no end, or no pass"
 
@@ -369,6 +393,9 @@ ERRORS = (
      'line 2: more than 16 calls inside one another, the main program counted'),
     ('local function f(g)\n  local %s\n  return (g(g))\nend\nreturn (f(f))' % ', '.join('v%d' % i for i in range(150)), 'f0340000003801000300',
      'line 3: a call that would pass 2,048 registers in all running functions'),
+    ('local f\nfor i = 1, 65 do\n  f = function() end\nend', 'f035000000c700000500', 'line 3: more than 64 functions made'),
+    ('local f\nfor i = 1, 43 do\n  local a, b, c = i, i, i\n  f = function() a = b + c end\nend', 'f0360000013000000800',
+     'line 4: more than 128 variables that functions hold'),
 )
 # Sign, answer, and what an unfit operand is told.
 NO_NUMBER, NO_INTEGER = "isn't a number, nor a string that reads as one", 'has no integer'
@@ -378,17 +405,17 @@ OPERATORS = (
 )
 # Sign, the one that luac makes of it with the sides exchanged, and the answer.
 COMPARISONS = (('<', '>', 43), ('<=', '>=', 44))
-LUA_ERRORS = {*range(30, 47), *range(50, 53)}
+LUA_ERRORS = {*range(30, 47), *range(50, 55)}
 
 # Images that aren't run, their answers and those in words.
 NOT_RUN = (
     ('a00100\nB0\ne001\n', 'f0010000000000000100',
      'not an image: line 1 counted from 0, a line that is empty, not paired lowercase hexadecimal, or not ended by LF\n'),
     ('a00100\nb005\ne001\n', 'f0020000000000000100', 'not an image: line 1 counted from 0, an unknown kind, or a wrong length, tag, order or field\n'),
-    ('a00100\n' * 33, 'f0030000000000002000', 'not an image: line 32 counted from 0, too many bytes, prototypes, constants or instructions\n'),
+    ('a00100\n' * 33, 'f0030000000000002000', 'not an image: line 32 counted from 0, too many bytes, prototypes, descriptors, constants or instructions\n'),
     ('a00100\nc00c00000000\n', 'f0040000000000000200', 'not an image: line 2 counted from 0, no e0 line at the end, or a byte after it\n'),
     ('a00100\nc06300010203\ne001\n', 'f00a0000000000000000',
-     "refused by the checker with 10: an operation that isn't carried, a count of 255, or a jump that closes\n"
+     "refused by the checker with 10: an operation that isn't carried, or a count of 255\n"
      '0:0      operation 99    bytes 63 00 01 02 03, refused with 10\n'),
     ('a00100\nc00000000001\nc00c00000000\ne001\n', 'f00b0000000000000000',
      "refused by the checker with 11: an unused byte or flag that isn't 0, or a yes/no byte above 1\n"
@@ -407,6 +434,9 @@ NOT_RUN = (
      "refused by the checker with 15: a prototype that isn't in the image\n"
      '0:0      Closure         bytes 11 00 00 01 00, refused with 15\n'),
     ('e000\n', 'f00f0000000000000000', 'refused by the checker with 15: there is no prototype\n'),
+    ('a00100\nc00c00000000\na00100\nd10000\nc01800000100\nc00c00000000\ne002\n', 'f0100000000001000000',
+     "refused by the checker with 16: an upvalue or a descriptor that isn't there, or descriptors of prototype 0\n"
+     '1:0      GetUpValue      bytes 18 00 00 01 00, refused with 16\n'),
 )
 
 VALUES = '''local function late(x)
@@ -633,7 +663,7 @@ class Usage(Test):
 
 
     def test_version_and_help(self):
-        self.assertEqual(lua2image('--version'), (0, 'lua2image 0.2.0\n', ''))
+        self.assertEqual(lua2image('--version'), (0, 'lua2image 0.3.0\n', ''))
         status, out, said = lua2image('--help')
         self.assertEqual((status, said), (0, ''))
         self.assertRegex(out, r'(?s)usage: lua2image .*Exit status:\n    0 .*\n    1 .*\n    2 ')
@@ -818,10 +848,23 @@ class Helpers(Test):
         made = translated(b'local year, day = 365, 365\nlocal function f(x) return x - 365 - year - day end')
         self.assertEqual(len(made.prototypes[1].constants), 1)
 
+    def test_a_function_around_is_made_once(self):
+        """It is an upvalue, however often it is called: entries are few."""
+        rule = 'local function f(x) return x end\nlocal function g(x) return (f(x)) end\nlocal s = 0\nfor i = 1, 100 do s = s + g(i) end\nreturn s'
+        self.assertEqual(machine.session(translated(rule.encode()).image.encode()).splitlines()[1:], ['b00200000000000013ba'])
+
+    def test_what_nothing_uses_is_dropped(self):
+        """A constant takes no descriptor, here nor in the functions through which it comes; the others are numbered anew."""
+        made = translated(b'local n = ...\nlocal year = 365\nlocal function f()\n  local function g() n = n + year return n end\n  return (g())\nend\nreturn (f())')
+        self.assertEqual([[tuple(one) for one in prototype.descriptors] for prototype in made.prototypes], [[], [(0, 0)], [(1, 0)]])
+
     def test_in_code_that_is_never_reached(self):
         made = translated(b'local year = 365\nif false then\n  local function f() return year end\nend\ndo return end\nlocal function g() return year end')
         self.assertEqual([len(prototype.constants) for prototype in made.prototypes], [1, 1, 1])
         translated(b'local year = 365\nif false then\n  local days = year\n  local function f() return days end\nend')
+
+
+VALUES_TOLD = {'nil': machine.NOTHING, 'true': boolean(True), 'false': boolean(False), '1e999': number(float('inf'))}
 
 
 def shown(m, value):
@@ -836,32 +879,41 @@ class AgainstLua(Test):
     def answered(self, image, arguments):
         """What the machine answers, in run.lua's words; None where a limit is passed that Lua hasn't."""
         m = machine.Machine()
-        values = [number(float(text)) if text == '1e999' else figure(text.encode()) for text in arguments]
+        values = [VALUES_TOLD.get(text) or figure(text.encode()) for text in arguments]
         self.assertEqual((m.read(image)[0], m.start(values)[0]), (0, 0))
         answer = m.run(20000)[0]
-        if answer in (51, 52, 70):
+        if answer in (51, 52, 53, 54, 70):
             return None
         return ' '.join(['ok', *(shown(m, value) for value in m.returned())]) if answer == 0 else 'error'
 
-    def test_rules_made_by_chance(self):
-        """What is carried answers what lua5.3 does, and what is tame is carried."""
-        carried = []
-        for seed in range(self.COUNT):
-            source, arguments, is_tame = rule(seed)
-            try:
-                carried.append((source, arguments, translated(source.encode()).image))
-            except Refused as refusal:
-                self.assertFalse(is_tame, '%s\n%s' % (source, refusal))
-                continue
-            self.file('%d.lua' % len(carried), 'return (function(...) %s\nend)(%s)\n' % (source, ', '.join(arguments)))
-        lua = subprocess.run(['lua5.3', RUN_LUA, self.folder, str(len(carried))], stdout=subprocess.PIPE, check=True, universal_newlines=True).stdout
+    def compared(self, rules):
+        """How many of these answer what lua5.3 does, [(source, arguments, image), ..]; the others pass a limit."""
+        for at, (source, arguments, _) in enumerate(rules, 1):
+            self.file('%d.lua' % at, 'return (function(...) %s\nend)(%s)\n' % (source, ', '.join(arguments)))
+        lua = subprocess.run(['lua5.3', RUN_LUA, self.folder, str(len(rules))], stdout=subprocess.PIPE, check=True, universal_newlines=True).stdout
         agreed = 0
-        for (source, arguments, image), said in zip(carried, lua.splitlines()):
+        for (source, arguments, image), said in zip(rules, lua.splitlines()):
             has = self.answered(image, arguments)
             if has is not None:
                 self.assertEqual(has, said if said.startswith('ok') else 'error', '%s%s' % (source, arguments))
                 agreed += 1
-        self.assertGreater(agreed, self.COUNT // 2)
+        return agreed
+
+    def test_rules_made_by_chance(self):
+        """All are carried, but for those with a function of too many variables from outside."""
+        carried = []
+        for seed in range(self.COUNT):
+            source, arguments = rule(seed)
+            try:
+                carried.append((source, arguments, translated(source.encode()).image))
+            except Refused as refusal:
+                self.assertTrue(all('variables of outer functions in one function' in message for _, message in refusal.args[0]), '%s\n%s' % (source, refusal))
+        self.assertGreater(len(carried), self.COUNT * 3 // 4)
+        self.assertGreater(self.compared(carried), self.COUNT // 2)
+
+    def test_what_functions_hold(self):
+        rules = [(source, told.split(), translated(source.encode()).image) for _, source, told in HOLDING]
+        self.assertEqual(self.compared(rules), len(rules))
 
 
 class Warnings(Test):
@@ -900,11 +952,12 @@ class Listing(Test):
 
     def test_every_operation_has_words(self):
         code = ''.join('c0%02x00%s0000\n' % (number, 'ff' if name == 'Jump' else '00') for number, name in NAMES.items())
-        image = self.file('all.image', 'a00400\nb000\n' + code + 'c00c00000000\ne001\n')
+        image = self.file('all.image', 'a00100\nc00c00000000\na00400\nd10100\nb000\n' + code + 'c00e00030000\nc00c00000000\ne002\n')
         status, out, said = lua2image('--list', image)
         self.assertEqual((status, said), (0, ''))
-        self.assertEqual(list(names_listed(out).values()), [*NAMES.values(), 'Return'])
+        self.assertEqual(list(names_listed(out).values()), ['Return', *NAMES.values(), 'Jump', 'Return'])
         self.assertNotIn('refused', out)
+        self.assertIn('Jump            close from r3 on, go to 1:%d\n' % (len(NAMES) + 1), out)
 
     def test_an_instruction_that_is_refused(self):
         image = self.file('bad.image', 'a00100\nc06300010203\nc00000000100\nc00c00000000\ne001\n')
@@ -924,10 +977,10 @@ class Answers(Test):
     def test_years_as_text(self):
         self.answers(YEARS, YEARS_LISTING, YEARS_ANSWER)
 
-    def test_two_functions_of_one_prototype_are_equal(self):
-        """Lua 5.3 would tell them apart; its manual leaves that open (docs/DIFFERENCES.md)."""
-        rule = 'local function maker()\n  local k = 5\n  return function() return k end\nend\nreturn (maker()) == (maker())'
-        self.assertEqual(machine.session(translated(rule.encode()).image.encode()).splitlines()[1:], ['b00101'])
+    def test_two_functions_are_equal_where_they_are_one(self):
+        """Lua 5.3 may take two that can't be told apart for one; its manual leaves that open (docs/DIFFERENCES.md)."""
+        rule = 'local function maker()\n  return function() return 5 end\nend\nlocal f = maker()\nlocal g = f\nreturn f == (maker()), f == g'
+        self.assertEqual(machine.session(translated(rule.encode()).image.encode()).splitlines()[1:], ['b00100', 'b00101'])
 
     def test_a_period_without_end(self):
         self.answers(PERIODS, PERIODS_LISTING, PERIODS_ANSWER)

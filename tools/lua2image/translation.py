@@ -62,7 +62,7 @@ def resolve(functions):
 def prototypes_of(functions):
     try:
         made = [Prototype(function.registers, function.parameters, function.constants,
-                          [luac_image.translated(function, word) for word in function.code]) for function in functions]
+                          [luac_image.translated(function, word) for word in function.code], luac_image.descriptors(function)) for function in functions]
     except luac_image.Refused as refusal:
         raise Unusable("luac5.3's chunk has an instruction that %s" % refusal)
     if any(not 0 <= byte <= 255 for prototype in made for five in prototype.instructions for byte in five):

@@ -1,23 +1,24 @@
-"""Upvalues that need no cell: variables of an outer function that are never assigned and hold a function of the rule or a constant.
+"""Upvalues that need no cell: variables of an outer function that are never assigned and hold a constant.
 
     Known(functions)             what is known before the program runs; functions: all of them, in the image's order
-      .held(function, p, r)        what register r holds whenever instruction p begins
-      .shared(function, u)         what upvalue u holds whenever it is read
-    put_in(functions, known)     puts what is known in the place of each instruction that reads an upvalue
+      .held(function, p, r)        the constant that register r holds whenever instruction p begins
+      .shared(function, u)         the constant that upvalue u holds whenever it is read
+    put_in(functions, known)     puts what is known in the place of each instruction that reads an upvalue, and drops what nothing uses then
 
-What is held is the bytes of a constant, as the image has it, or a Function; None where that isn't known. It is known of an upvalue if
+A constant is its bytes, as the image has it; None where that isn't known. It is known of an upvalue if
 
 1. it stands for a local of an outer function, which the debug information tells: the locals in scope at an instruction own the registers from
    0 on, in their order;
 2. no instruction in the local's scope writes its register, and no function sets it as an upvalue;
-3. just one definition of that register reaches the instruction that makes the closure, and what it puts there is known; or the closure is the
-   local's own first value, as in `local function f`.
+3. just one definition of that register reaches the instruction that makes the closure, and what it puts there is known.
 
-The last write before the closure in the order of the code wouldn't do: a `for` writes its variable from behind."""
+The last write before the closure in the order of the code wouldn't do: a `for` writes its variable from behind.
+
+Every other upvalue is one of the image's. A function that is never assigned is too: another closure of it would be another entry each time."""
 from collections import namedtuple
 
 from flow import ENTRY, Flow
-from luac_image import decoded, encoded, operation, wide
+from luac_image import decoded, encoded, operation, upvalues_used, wide
 from oracle.values import BOOLEAN, NIL
 
 # local: its number among the function's locals.
@@ -81,7 +82,8 @@ class Known:
         function, local, register = capture.variable
         _, start, _ = function.locals[local]
         if start == capture.closure + 1:
-            return self.put(function, capture.closure)
+            # `local function f` in its own body
+            return None
         # a closure that is never made has what the local begins with: so the listing shows what the source says
         is_made = self.flows[function].definitions(capture.closure, register)
         return self.held(function, capture.closure if is_made else start, register)
@@ -100,8 +102,15 @@ class Known:
             name, _, b, _ = decoded(function.code[p])
             if name != 'MOVE':
                 return self.put(function, p)
+            if self.is_set_by_functions(function, p, b):
+                return None
             r = b
         return None
+
+    def is_set_by_functions(self, function, p, r):
+        """Whether register r is at instruction p a local's that a function sets as an upvalue."""
+        in_scope = function.in_scope(p)
+        return r < len(in_scope) and Variable(function, in_scope[r], r) in self.set_by_functions
 
     def put(self, function, p):
         """What instruction p, no MOVE, puts into its registers."""
@@ -113,8 +122,6 @@ class Known:
             return bytes([BOOLEAN, b != 0])
         if name == 'LOADNIL':
             return bytes([NIL])
-        if name == 'CLOSURE':
-            return function.functions[wide(word)]
         return self.shared(function, b) if name == 'GETUPVAL' else None
 
 
@@ -128,9 +135,7 @@ def number_in(those, one):
 
 
 def loading(function, a, held):
-    """The instruction of luac's that puts what is held into register a."""
-    if not isinstance(held, bytes):
-        return encoded('CLOSURE', a, number_in(function.functions, held))
+    """The instruction of luac's that puts a constant into register a."""
     if held[0] == NIL:
         return encoded('LOADNIL', a, 0)
     if held[0] == BOOLEAN:
@@ -139,7 +144,7 @@ def loading(function, a, held):
 
 
 def put_in(functions, known):
-    """A function's constants and functions may become more: those of outer functions that it reads. Nothing is left to close then."""
+    """A function's constants may become more: those of outer functions that it reads."""
     reads = [(function, p, known.shared(function, decoded(word)[2]))
              for function in functions for p, word in enumerate(function.code) if operation(word) == 'GETUPVAL']
     for function, p, held in reads:
@@ -147,5 +152,46 @@ def put_in(functions, known):
             _, a, u, _ = decoded(function.code[p])
             function.put_in[p] = function.upvalue_names[u]
             function.code[p] = loading(function, a, held)
+    drop_unused(functions)
+
+
+# ---- what nothing uses
+
+def drop_unused(functions):
+    """Upvalues that neither a function nor one within it reads or sets, and the closing of registers that none holds."""
+    used = {}
+    # each function stands before those within it
+    for function in reversed(functions):
+        own = {u for word in function.code for u in upvalues_used(word)}
+        within = {number for inner in function.functions for u in used[inner] for in_register, number in [inner.upvalues[u]] if not in_register}
+        used[function] = sorted(own | within)
     for function in functions:
-        function.code = [encoded('JMP', 0, wide(word)) if operation(word) == 'JMP' else word for word in function.code]
+        keep_upvalues(function, used[function])
+    for function in functions:
+        held = [number for inner in function.functions for in_register, number in inner.upvalues if in_register]
+        function.code = [closing(word, max(held, default=-1)) for word in function.code]
+
+
+def keep_upvalues(function, used):
+    """Those of these numbers, in their order. The main function's one is _ENV, and stays."""
+    if not function.number:
+        return
+    function.upvalues = [function.upvalues[u] for u in used]
+    function.upvalue_names = [function.upvalue_names[u] for u in used]
+    function.code = [renumbered(word, used) for word in function.code]
+    for inner in function.functions:
+        inner.upvalues = [(in_register, number if in_register or number not in used else used.index(number)) for in_register, number in inner.upvalues]
+
+
+def renumbered(word, used):
+    """An instruction with the new number of the upvalue that it uses."""
+    name, a, b, c = decoded(word)
+    if name in ('GETUPVAL', 'SETUPVAL', 'GETTABUP'):
+        return encoded(name, a, used.index(b) << 9 | c)
+    return encoded(name, used.index(a), b << 9 | c) if name == 'SETTABUP' else word
+
+
+def closing(word, last):
+    """A JMP closes nothing where the last register that is held lies below the one that it closes from."""
+    name, a, _, _ = decoded(word)
+    return encoded('JMP', 0, wide(word)) if name == 'JMP' and a - 1 > last else word

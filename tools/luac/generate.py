@@ -26,7 +26,7 @@ from programs import CASES
 
 BUDGET = 1000000
 # What crates/runs/src/main.rt reads of its standard input.
-MOST_BYTES = 524288
+MOST_BYTES = 1048576
 RUST = os.path.join(HERE, '..', 'whole', 'answers.txt')
 
 # The number of document 01's table for an operand that a Lua operation doesn't take, and for a call of no function.
@@ -57,6 +57,10 @@ MESSAGES = (
 )
 
 
+# The operations of the limits that Lua hasn't.
+PAPER = {51: 'CALL', 52: 'CALL', 53: 'CLOSURE', 54: 'CLOSURE'}
+
+
 def found(program, case, line, operations):
     """The one instruction of these operations at a source line: its name and place."""
     places = []
@@ -74,7 +78,7 @@ def expected(program, case, said):
     """What must be written: Lua's answer, in the documents' numbers."""
     if case.paper:
         number, line = case.paper
-        _, q, p = found(program, case, line, ('CALL',))
+        _, q, p = found(program, case, line, (PAPER[number],))
         return '%d %d %d' % (number, q, p)
     what, _, rest = said.partition(' ')
     if what == 'ok':
@@ -109,27 +113,29 @@ def write_sources(folder):
             file.write('-- %s\n' % case.name + case.source)
 
 
-def compiled_and_run():
-    """Every program's translation and what Lua says of it, in the order of CASES."""
+def translated(case):
+    try:
+        return luac_image.Program(luac_image.compiled(case.source.encode('latin-1')))
+    except luac_image.Refused as refusal:
+        raise SystemExit('%s: refused: %s\n%s' % (case.name, refusal, case.source))
+
+
+def told(cases):
+    """What Lua says of each program."""
     with tempfile.TemporaryDirectory() as folder:
-        programs = []
-        for i, case in enumerate(CASES):
-            path = os.path.join(folder, '%d.lua' % (i + 1))
-            with open(path, 'w') as file:
+        for i, case in enumerate(cases):
+            with open(os.path.join(folder, '%d.lua' % (i + 1)), 'w') as file:
                 file.write(case.source)
-            try:
-                programs.append(luac_image.translate(path))
-            except luac_image.Refused as refusal:
-                raise SystemExit('%s: refused: %s\n%s' % (case.name, refusal, case.source))
-        lua = subprocess.run(['lua5.3', os.path.join(HERE, 'run.lua'), folder, str(len(CASES))], stdout=subprocess.PIPE, check=True,
+        lua = subprocess.run(['lua5.3', os.path.join(HERE, 'run.lua'), folder, str(len(cases))], stdout=subprocess.PIPE, check=True,
                              universal_newlines=True).stdout.splitlines()
-    assert len(lua) == len(CASES)
-    return programs, lua
+    assert len(lua) == len(cases)
+    return lua
 
 
 def by_lua():
     """Name and image of each program, what Lua's answer is in the documents' numbers, and where it comes from."""
-    for case, program, said in zip(CASES, *compiled_and_run()):
+    for case, said in zip(CASES, told(CASES)):
+        program = translated(case)
         yield case.name, program.image, expected(program, case, said), '%s  Lua:    %s' % (case.source, said)
 
 

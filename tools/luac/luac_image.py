@@ -17,8 +17,9 @@ import tempfile
 
 sys.dont_write_bytecode = True
 sys.path.insert(1, os.path.join(os.path.dirname(os.path.realpath(__file__)), '..'))
-from oracle.image import MOST_BYTES, MOST_CONSTANTS, MOST_INSTRUCTIONS, MOST_PROTOTYPES, MOST_STRING_BYTES, Prototype, printed
-from oracle.rules import instruction
+from oracle.image import (MOST_BYTES, MOST_CONSTANTS, MOST_DESCRIPTORS, MOST_INSTRUCTIONS, MOST_PROTOTYPES, MOST_STRING_BYTES, OF_REGISTER, OF_UPVALUE,
+                          Descriptor, Prototype, printed)
+from oracle.rules import CLOSES_NONE, instruction
 from oracle.values import BOOLEAN, INTEGER, NIL, NUMBER, STRING
 
 NAMES = ('MOVE LOADK LOADKX LOADBOOL LOADNIL GETUPVAL GETTABUP GETTABLE SETTABUP SETUPVAL SETTABLE NEWTABLE SELF ADD SUB MUL MOD POW DIV IDIV '
@@ -129,6 +130,9 @@ class Function:
             raise Refused("luac5.3's chunk lacks instructions, their lines or names")
         if not all(0 <= start <= end <= len(self.code) for _, start, end in self.locals):
             raise Refused("luac5.3's chunk has a local whose scope isn't there")
+        for inner in self.functions:
+            if any(in_register > 1 or number >= (self.registers if in_register else len(self.upvalues)) for in_register, number in inner.upvalues):
+                raise Refused("luac5.3's chunk has a function over a variable that isn't there")
         for p, word in enumerate(self.code):
             if word & 63 >= len(NAMES):
                 raise Refused("luac5.3's chunk has an unknown operation, %d" % (word & 63))
@@ -240,14 +244,15 @@ class Program:
         if len(self.functions) > MOST_PROTOTYPES:
             raise Refused('%d functions; an image has at most %d' % (len(self.functions), MOST_PROTOTYPES))
         self.prototypes = [self.prototype(function) for function in self.functions]
+        # What is no register of the main function is its upvalue, _ENV; an instruction that asks it for a global is refused by itself.
+        for function in main.functions:
+            if not all(in_register for in_register, _ in function.upvalues):
+                raise Refused('line %d: a function that uses _ENV' % function.line)
         self.image = printed(self.prototypes)
         if len(self.image) > MOST_BYTES:
             raise Refused('the image has %d bytes; at most %d are read' % (len(self.image), MOST_BYTES))
 
     def prototype(self, function):
-        if function.number and function.upvalues:
-            names = ', '.join(name.decode() for name in function.upvalue_names)
-            raise Refused('line %d: a function that uses variables from outside (%s)' % (function.line, names))
         if len(function.constants) > MOST_CONSTANTS:
             raise Refused('line %d: %d constants; a function has at most %d' % (function.line, len(function.constants), MOST_CONSTANTS))
         if len(function.code) > MOST_INSTRUCTIONS:
@@ -261,7 +266,15 @@ class Program:
                 code.append(translated(function, word))
             except Refused as refusal:
                 raise Refused('line %d: %s %s' % (line, operation(word), refusal))
-        return Prototype(function.registers, function.parameters, function.constants, code)
+        if function.number and len(function.upvalues) > MOST_DESCRIPTORS:
+            raise Refused('line %d: a function that uses %d variables from outside; at most %d are carried' % (
+                function.line, len(function.upvalues), MOST_DESCRIPTORS))
+        return Prototype(function.registers, function.parameters, function.constants, code, descriptors(function))
+
+
+def descriptors(function):
+    """Of its upvalues; the main function's one is _ENV, which is no variable of the program."""
+    return [Descriptor(OF_REGISTER if in_register else OF_UPVALUE, number) for in_register, number in function.upvalues] if function.number else []
 
 
 def offset(word):
@@ -308,15 +321,16 @@ def translated(function, word):
     if name == 'RETURN':
         return instruction('Return', a, counted(b, 'results'))
     if name == 'JMP':
-        if a:
-            raise Refused('that closes variables')
-        return instruction('Jump', 255, *offset(word))
+        # Lua's register is one more, and 0 is none.
+        return instruction('Jump', a - 1 if a else CLOSES_NONE, *offset(word))
     if name == 'TEST':
         return instruction('Test', a, int(c == 0))
     if name == 'TESTSET':
         return instruction('TestSet', a, b, int(c == 0))
     if name == 'CLOSURE':
         return instruction('Closure', a, function.functions[wide(word)].number)
+    if name in ('GETUPVAL', 'SETUPVAL') and function.number:
+        return instruction('GetUpValue', a, b) if name == 'GETUPVAL' else instruction('SetUpValue', b, a)
     if name == 'FORPREP':
         return instruction('NumericForPrep', a, *offset(word))
     if name == 'FORLOOP':

@@ -2,15 +2,18 @@
 
 Left out, since the documents say otherwise than Lua 5.3 (docs/DIFFERENCES.md): Mod of numbers whose remainder times divisor rounds to zero under
 strictly opposite signs; arithmetic in which a string reads as an integer and no operand is a number, of which Lua 5.3 makes floats; strings outside
-the set that Lua converts; loops with a string, a NaN or a step of zero; loops of numbers with an integer limit that a number doesn't hold. An error's
+the set that Lua converts; two functions of one place that hold the same variables, or none, compared; loops with a string, a NaN or a step of
+zero; loops of numbers with an integer limit that a number doesn't hold. An error's
 line has just one instruction that could raise it."""
 import math
+import re
 
+from closures import program
 from oracle.dice import Dice
 
 
 class Case:
-    """paper: number and line of a Call that document 01 refuses and Lua doesn't."""
+    """paper: number and line of a Call or of a function's end that the documents' limits refuse and Lua doesn't."""
 
     def __init__(self, name, source, paper=None):
         self.name, self.source, self.paper = name, source, paper
@@ -219,12 +222,14 @@ def comparisons(count):
         lines = ['local f = function() return 1 end', 'local g = function() return 1 end', 'local v = ' + left]
         lines += ['local c%d = v == %s' % (i, right) for i, right in enumerate(values)]
         case('equality with ' + left.replace('"', "'"), lines + ['return ' + ', '.join('c%d' % i for i in range(len(values)))])
-    case('functions are equal by their prototypes', '''
-local make = function() local f = function() return 1 end return f end
-local a = make()
-local b = make()
+    # of two functions of one place only those that hold different variables: Lua 5.3 may take others for one
+    case('functions are equal where they are one', '''
+local make = function(x) local f = function() x = x + 1 return x end return f end
+local a = make(1)
+local b = make(1)
 local c = function() return 1 end
-return a == b, a == c, make == make, a ~= b, not (a == c)''')
+local d = a
+return a == b, a == c, make == make, a ~= b, not (a == c), a == d, d ~= b''')
 
 
 # ---- truth
@@ -1257,6 +1262,421 @@ def algorithms():
         case('algorithm: ' + name, source)
 
 
+# ---- closures: document 02, 6/12
+
+# Each with several figures for A, B and C.
+CLOSURES = {
+    'a counter': '''
+local function counter(n)
+  return function(by) n = n + by return n end
+end
+local f, g = counter(A), counter(B)
+local a = f(1)
+local b = g(C)
+local c = f(C)
+local d = g(A)
+return a, b, c, d, (f(0)), (g(0))''',
+    'two functions share what they hold': '''
+local function account(sum)
+  local function put(x) sum = sum + x end
+  local function has() return sum end
+  return put, has
+end
+local put, has = account(A)
+put(B)
+local first = has()
+local other, none = account(C)
+put(C)
+other(1)
+return first, (has()), (none())''',
+    'three functions share what they hold': '''
+local low, high = A, B
+local function set(x, y) low, high = x, y end
+local function width() return high - low end
+local function swap() low, high = high, low end
+local a = width()
+swap()
+local b = width()
+set(C, A)
+swap()
+return a, b, (width()), low, high''',
+    'a variable outlives its block': '''
+local f, g
+do
+  local x = A
+  f = function() x = x + B return x end
+  g = function() return x * 2 end
+end
+local y = C
+do
+  local z = y
+  y = f() + z
+end
+return (f()), (g()), y''',
+    'a loop gives each pass a variable': '''
+local f, g, h
+for i = A, A + 2 do
+  if i == A then f = function(x) i = i + x return i end
+  elseif i == A + 1 then g = function(x) i = i * x return i end
+  else h = function() return i end end
+end
+local a, b = f(B), g(C)
+return a, b, (f(1)), (g(2)), (h())''',
+    'a while gives each pass a variable': '''
+local f, g
+local n = 0
+while n < 3 do
+  n = n + 1
+  local x = n * A
+  if n == 2 then f = function() x = x + B return x end end
+  if n == 3 then g = function() return x end end
+end
+local a = f()
+return a, (f()), (g()), n''',
+    'a repeat sees its variable in the condition': '''
+local f
+local n = 0
+repeat
+  n = n + 1
+  local x = n + A
+  f = function() x = x + 1 return x end
+  f()
+until x > A + B or n > 5
+return n, (f()), (f())''',
+    'a loop is left with its variable kept': '''
+local f
+for i = 1, 9 do
+  local x = i * B
+  f = function(y) x = x + y return x, i end
+  if x > A then break end
+end
+local a, b = f(C)
+local c, d = f(C)
+return a, b, c, d''',
+    'a pass is left by goto': '''
+local f, g
+local s = 0
+for i = 1, 4 do
+  local x = i + A
+  local function add() s = s + x end
+  if i == 2 then g = add goto next end
+  f = add
+  do
+    local y = x * B
+    x = y
+    add()
+  end
+  ::next::
+end
+f()
+g()
+return s''',
+    'a block is left backwards': '''
+local f
+local n = 0
+::again::
+do
+  local x = n * A
+  if not f or n == 2 then f = function() x = x + B return x end end
+  n = n + 1
+  if n < 4 then goto again end
+end
+return n, (f()), (f())''',
+    'a function calls itself by name': '''
+local function fact(n)
+  if n < 2 then return 1 end
+  return n * fact(n - 1)
+end
+local function fib(n)
+  if n < 2 then return n end
+  return fib(n - 1) + fib(n - 2)
+end
+return (fact(A % 9 + 2)), (fib(B % 7 + 3))''',
+    'functions call one another': '''
+local odd
+local function even(n)
+  if n == 0 then return true end
+  return (odd(n - 1))
+end
+function odd(n)
+  if n == 0 then return false end
+  return (even(n - 1))
+end
+local a = even(A % 12)
+return a, (odd(B % 12)), (even(C % 12))''',
+    'a function changes the name that it is called by': '''
+local calls = 0
+local f
+f = function(x)
+  calls = calls + 1
+  f = function(y) calls = calls + 10 return y * B end
+  return x + A
+end
+local g = f
+local a = f(C)
+local b = f(C)
+local c = g(C)
+return a, b, c, calls''',
+    'a variable of the function around the one around': '''
+local function outer(x)
+  local function middle(y)
+    local function inner(z)
+      x = x + z
+      y = y * 2
+      return x + y
+    end
+    return inner
+  end
+  local f = middle(A)
+  local g = middle(B)
+  return f, g, function() return x end
+end
+local f, g, h = outer(C)
+local a, b, c = f(1), g(2), f(3)
+return a, b, c, (h())''',
+    'through functions that do not use it': '''
+local x = A
+local function one()
+  local function two()
+    local function three()
+      local function four() x = x + B return x end
+      return four
+    end
+    return (three())
+  end
+  return (two())
+end
+local f = one()
+local a = f()
+x = x * C
+return a, (f()), x''',
+    'parameters are variables too': '''
+local function make(a, b, c)
+  local function rotate() a, b, c = b, c, a end
+  local function read() return a * 100 + b * 10 + c end
+  rotate()
+  return rotate, read
+end
+local rotate, read = make(A, B, C)
+local x = read()
+rotate()
+local y = read()
+rotate()
+return x, y, (read())''',
+    'a parameter that is missing': '''
+local function make(a, b)
+  return function(x) if b then a = a + x else b = x end return a, b end
+end
+local f = make(A)
+local a, b = f(B)
+local c, d = f(C)
+return a, b, c, d''',
+    'functions are handed on': '''
+local function twice(f, x) local y = f(x) return (f(y)) end
+local function compose(f, g) return function(x) local y = g(x) return (f(y)) end end
+local function add(n) return function(x) return x + n end end
+local function times(n) return function(x) return x * n end end
+local f = compose(add(A), (times(B)))
+local g = compose(times(B), (add(A)))
+return (f(C)), (g(C)), (twice(f, C)), (twice(compose(f, g), 1))''',
+    'one argument at a time': '''
+local function curry(f) return function(a) return function(b) return function(c) return (f(a, b, c)) end end end end
+local f = curry(function(a, b, c) return a * b - c end)
+local g = f(A)
+local h = g(B)
+local k = g(C)
+return (h(C)), (h(A)), (k(B)), (k(0))''',
+    'numbers made of functions': '''
+local function zero(f) return function(x) return x end end
+local function succ(n) return function(f) local g = n(f) return function(x) local y = g(x) return (f(y)) end end end
+local function value(n) local count = 0 local f = n(function(x) count = count + 1 return x + A end) local y = f(B) return y, count end
+local one = succ(zero)
+local three = succ((succ(one)))
+local a, b = value(three)
+return a, b''',
+    'recursion without a name': '''
+local function fix(f)
+  local function g(x) return (f(g, x)) end
+  return g
+end
+local sum = fix(function(self, n) if n < 1 then return B end return n + self(n - 1) end)
+return (sum(A % 5)), (sum(C % 4))''',
+    'a memory': '''
+local function remembered(f)
+  local key, value
+  local misses = 0
+  return function(x)
+    if key ~= x then key, value, misses = x, f(x), misses + 1 end
+    return value
+  end, function() return misses end
+end
+local f, misses = remembered(function(x) return x * x + A end)
+local a, b, c, d = f(B), f(B), f(C), f(B)
+return a, b, c, d, (misses())''',
+    'a sequence': '''
+local function fibs(a, b)
+  return function() a, b = b, a + b return a end
+end
+local next = fibs(A, B)
+local s = 0
+for i = 1, 6 do s = s * 7 + next() end
+local other = fibs(C, A)
+return s, (next()), (other()), (next()), (other())''',
+    'values of every kind': '''
+local function cell(v) return function() return v end, function(w) v = w end end
+local get, set = cell("town")
+local a = get()
+set(nil)
+local b = get()
+set(false)
+local c = get()
+set(A / 4)
+local d = get()
+set(-B)
+local e = get()
+set("")
+return a, b, c, d, e, (get())''',
+    'a function in a variable of a function': '''
+local function holder(f) return function(x) return (f(x)) end, function(g) f = g end end
+local call, put = holder(function(x) return x + A end)
+local a = call(C)
+put(function(x) return x * B end)
+local b = call(C)
+put(call)
+put(function(x) return x - A end)
+return a, b, (call(C))''',
+    'the last variable that closes first': '''
+local f, g, h
+do
+  local x = A
+  do
+    local y = B
+    do
+      local z = C
+      f = function() x = x + 1 y = y + 1 z = z + 1 return x * 100 + y * 10 + z end
+    end
+    g = function() y = y * 2 return x + y end
+  end
+  h = function() x = x * 2 return x end
+end
+local a, b, c = f(), g(), h()
+return a, b, c, (f()), (g()), (h())''',
+    'variables that hide one another': '''
+local x = A
+local function f() x = x + 1 return x end
+local x = B
+local function g() x = x + f() return x end
+local x = C
+local function h(x) x = x + g() return x end
+return (h(x)), (g()), (f()), x''',
+    'results go into a variable that is held': '''
+local x, y = A, B
+local function see() return x * 1000 + y end
+local function both(p, q) return q, p end
+x, y = both(x, y)
+local a = see()
+y, x = both(C, (see()))
+return a, (see()), x, y''',
+    'a loop writes what is held': '''
+local last, s = 0, 0
+local function keep(i) last = i s = s + last end
+for i = A, A + 4 do
+  local function own() i = i * B return i end
+  keep((own()))
+  keep(i)
+end
+return last, s''',
+    'a sum over calls that are still open': '''
+local sum = 0
+local function walk(n, f)
+  local function here() sum = sum + n f() end
+  if n < 1 then here() return end
+  walk(n - 1, here)
+end
+walk(A % 6, function() sum = sum * 2 + B end)
+return sum''',
+    'each call has its own': '''
+local function deep(n, f)
+  local x = n * A
+  local function g() x = x + 1 if f then return x + f() end return x end
+  if n == 0 then local a = g() return a * 100 + g() end
+  return (deep(n - 1, g))
+end
+return (deep(B % 5, nil)), (deep(1, nil))''',
+    'eight variables from outside': '''
+local a, b, c, d, e, f, g, h = 1, 2, 3, 4, 5, 6, 7, 8
+local function all(x)
+  a, b, c, d, e, f, g, h = b, c, d, e, f, g, h, a + x
+  return a + b * 2 + c * 3 + d * 4 + e * 5 + f * 6 + g * 7 + h * 8
+end
+local x = all(A)
+local y = all(B)
+return x, y, (all(C)), a, h''',
+    'and, or, not over what is held': '''
+local on, off, n = true, false, A
+local function toggle() on, off = not on, on and n or off return on end
+local a = toggle()
+local b = on or off
+local c = toggle() and off
+return a, b, c, on, off, (toggle()) or B''',
+    'an error that names a variable from outside: +': '''
+local x
+local function f(y)
+  x = x + y
+end
+f(A)''',
+    'an error that names a variable from outside: call': '''
+local g
+local function f(y)
+  if y > B then
+    g(y)
+  end
+  return y
+end
+local a = f(B)
+return a, (f(B + 1))''',
+    'an error after what was closed': '''
+local function make(x) return function() x = x - 1 return A // x end end
+local f = make(2)
+local a = f()
+f()''',
+    'an error in the third function within': '''
+local s = "x"
+local function one()
+  local function two()
+    local function three()
+      return s < A
+    end
+    return (three())
+  end
+  return (two())
+end
+return (one())''',
+}
+
+
+def closures(many, by_chance):
+    dice = Dice(600)
+    for name, source in CLOSURES.items():
+        for turn in range(1 if name.startswith('an error') else many):
+            figures = {letter: str(dice.below(9) + 1) for letter in 'ABC'}
+            case('closures: %s %d' % (name, turn), re.sub(r'\b[ABC]\b', lambda found: figures[found[0]], source))
+    seed, most = 0, len(CASES) + by_chance
+    while len(CASES) < most:
+        lines = program(seed, 1, 3)
+        # those that make some, and are short enough to be read
+        if sum('function' in line for line in lines) > 1 and len(lines) < 45:
+            case('closures: by chance %d' % seed, lines)
+        seed += 1
+    every = 'local f\nfor i = 1, %d do\n  f = function() i = i + 1 return i end\nend\nreturn (f())'
+    case('closures: 64 of them', every % 64)
+    case('closures: 65 of them, 53 by the paper', every % 65, paper=(53, 3))
+    every = ('local f\nlocal s = 0\nfor i = 1, %d do\n  local a, b, c = i, i, i\n  f = function()\n    a = a + 1\n    b = b + a\n    c = c + b\n    return c\n'
+             '  end\n  s = s + f()\nend\nreturn s')
+    case('closures: 126 variables closed', every % 42)
+    case('closures: 129 variables closed, 54 by the paper', every % 43, paper=(54, 10))
+
+
 # ---- shapes: long, wide and many
 
 def shapes():
@@ -1308,4 +1728,5 @@ strings(26)
 errors()
 figures()
 algorithms()
+closures(6, 80)
 shapes()

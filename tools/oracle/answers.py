@@ -8,8 +8,8 @@ BAD_LINE, BAD_FRAME, TOO_MANY, BAD_END = 1, 2, 3, 4
 # What is lent is too short; no image reads to the storage.
 SHORT, NO_IMAGE = 5, 6
 
-# The checker's rules.
-NOT_CARRIED, STRAY_BYTE, NO_REGISTER, NO_CONSTANT, NO_TARGET, NO_PROTOTYPE = 10, 11, 12, 13, 14, 15
+# The checker's rules; the last is document 02's (6/12): an upvalue or a descriptor.
+NOT_CARRIED, STRAY_BYTE, NO_REGISTER, NO_CONSTANT, NO_TARGET, NO_PROTOTYPE, NO_UPVALUE = 10, 11, 12, 13, 14, 15, 16
 
 BAD_ARGUMENTS = 20
 
@@ -22,7 +22,9 @@ UNFIT_OPERAND = {
 ZERO_DIVISOR = {'IDiv': 45, 'Mod': 46}
 # Lua errors of Call: of no function; with as many activations as may be; past the registers that may be.
 NO_FUNCTION, TOO_DEEP, TOO_WIDE = 50, 51, 52
-LUA_ERRORS = {*UNFIT_OPERAND.values(), *ZERO_DIVISOR.values(), NO_FUNCTION, TOO_DEEP, TOO_WIDE}
+# Lua errors of Closure (document 02, 6/12): no entry is free; fewer cells are free than it needs.
+NO_ENTRY, FEW_CELLS = 53, 54
+LUA_ERRORS = {*UNFIT_OPERAND.values(), *ZERO_DIVISOR.values(), NO_FUNCTION, TOO_DEEP, TOO_WIDE, NO_ENTRY, FEW_CELLS}
 
 FAULT = 60
 RUNNING = 70

@@ -2,12 +2,14 @@
 
     parse(data)            the prototypes of an image's bytes, or Refused with the number and the line
     printed(prototypes)    their image, a text
-    stored(prototypes)     what reading them leaves at the front of each slice of the storage, {name: cells}
+    stored(prototypes)     what reading them leaves in each slice of the storage, {name: cells}; a cell that is None stays as it was lent
+    lay(cells, front)      puts so much of what is stored to a slice
     read_back(slices)      the prototypes of the image that reads to a storage, or None where no image does
 
 A constant is its bytes from the tag on. The storage is five slices:
 
-    table          the number of prototypes, then an Entry for each and one that closes the table
+    table          the number of prototypes, then an Entry for each and one that closes the entries; behind the room of 32 prototypes' entries, for
+                   each the number of its descriptors, and these
     code           every instruction, packed
     const_kinds    every constant's tag
     const_words    every constant's payload; of a string start * 65536 + length in the texts
@@ -19,9 +21,13 @@ from .answers import BAD_END, BAD_FRAME, BAD_LINE, TOO_MANY
 from .values import BOOLEAN, INTEGER, NIL, NUMBER, STRING
 
 MOST_BYTES, MOST_PROTOTYPES, MOST_CONSTANTS, MOST_INSTRUCTIONS, MOST_STRING_BYTES = 65536, 32, 256, 4096, 64
+MOST_DESCRIPTORS = 8
 
-Prototype = namedtuple('Prototype', 'registers parameters constants instructions')
+Prototype = namedtuple('Prototype', 'registers parameters constants instructions descriptors', defaults=((),))
 Instruction = namedtuple('Instruction', 'operation flags a b c')
+# Document 02, 6/12: "00 and a parent's register, or 01 and the parent's upvalue number".
+Descriptor = namedtuple('Descriptor', 'kind number')
+OF_REGISTER, OF_UPVALUE = range(2)
 
 
 class Refused(Exception):
@@ -30,7 +36,7 @@ class Refused(Exception):
 
 # ---- lines
 
-PROTOTYPE, CONSTANT, INSTRUCTION, END = 0xA0, 0xB0, 0xC0, 0xE0
+PROTOTYPE, CONSTANT, INSTRUCTION, DESCRIPTOR, END = 0xA0, 0xB0, 0xC0, 0xD1, 0xE0
 LINE = re.compile(rb'(?:[0-9a-f]{2})+')
 # How many bytes may follow a constant's tag.
 PAYLOAD = {NIL: range(0, 1), BOOLEAN: range(1, 2), INTEGER: range(8, 9), NUMBER: range(8, 9), STRING: range(0, MOST_STRING_BYTES + 1)}
@@ -43,7 +49,18 @@ def take_prototype(protos, rest):
         return BAD_FRAME
     if len(protos) == MOST_PROTOTYPES:
         return TOO_MANY
-    protos.append(Prototype(rest[0], rest[1], [], []))
+    protos.append(Prototype(rest[0], rest[1], [], [], []))
+
+
+def take_descriptor(protos, rest):
+    if len(rest) != len(Descriptor._fields) or rest[0] not in (OF_REGISTER, OF_UPVALUE):
+        return BAD_FRAME
+    # "between a0 and its constants"
+    if not protos or protos[-1].constants or protos[-1].instructions:
+        return BAD_FRAME
+    if len(protos[-1].descriptors) == MOST_DESCRIPTORS:
+        return TOO_MANY
+    protos[-1].descriptors.append(Descriptor(*rest))
 
 
 def take_constant(protos, rest):
@@ -69,7 +86,7 @@ def take_end(protos, rest):
         return BAD_FRAME
 
 
-TAKE = {PROTOTYPE: take_prototype, CONSTANT: take_constant, INSTRUCTION: take_instruction, END: take_end}
+TAKE = {PROTOTYPE: take_prototype, DESCRIPTOR: take_descriptor, CONSTANT: take_constant, INSTRUCTION: take_instruction, END: take_end}
 
 
 def judge(protos, line):
@@ -98,8 +115,9 @@ def parse(data):
 
 def printed(protos):
     lines = []
-    for registers, parameters, constants, instructions in protos:
+    for registers, parameters, constants, instructions, descriptors in protos:
         lines.append(bytes([PROTOTYPE, registers, parameters]))
+        lines += [bytes([DESCRIPTOR, *descriptor]) for descriptor in descriptors]
         lines += [bytes([CONSTANT]) + constant for constant in constants]
         lines += [bytes([INSTRUCTION, *instruction]) for instruction in instructions]
     lines.append(bytes([END, len(protos)]))
@@ -128,6 +146,17 @@ def entry(table, q):
     return Entry(*table[entry_at(q):entry_at(q + 1)])
 
 
+def descriptors_at(q):
+    """The cell of the table that has the number of prototype q's descriptors; they stand behind it, each as kind * 256 + number."""
+    return entry_at(MOST_PROTOTYPES + 1) + (1 + MOST_DESCRIPTORS) * q
+
+
+def descriptor_words(table, q):
+    """The words of prototype q's descriptors, or None where it has too many."""
+    first = descriptors_at(q) + 1
+    return table[first:first + table[first - 1]] if table[first - 1] <= MOST_DESCRIPTORS else None
+
+
 # ---- instructions: from the lowest bits c, b, a (8 bits each), flags % 4 (2), operation (8), flags / 4 (6)
 
 def packed(instruction):
@@ -142,7 +171,7 @@ def unpacked(word):
 # ---- the storage
 
 # The published sizes, in cells.
-STORAGE = dict(table=entry_at(MOST_PROTOTYPES + 1), code=5041, const_kinds=8448, const_words=8448, texts=32768)
+STORAGE = dict(table=descriptors_at(MOST_PROTOTYPES), code=5041, const_kinds=8448, const_words=8448, texts=32768)
 
 
 def text_at(slices, k):
@@ -151,9 +180,15 @@ def text_at(slices, k):
     return bytes(slices['texts'][start:start + length])
 
 
+def lay(cells, front):
+    for at, cell in enumerate(front):
+        if cell is not None:
+            cells[at] = cell
+
+
 def stored(protos):
     table, code, kinds, words, texts = [len(protos)], [], [], [], []
-    for registers, parameters, constants, instructions in protos:
+    for registers, parameters, constants, instructions, _ in protos:
         table += Entry(registers, parameters, len(kinds), len(code))
         for constant in constants:
             kinds.append(constant[0])
@@ -164,6 +199,9 @@ def stored(protos):
                 words.append(int.from_bytes(constant[1:], 'big'))
         code += [packed(instruction) for instruction in instructions]
     table += Entry(0, 0, len(kinds), len(code))
+    for q, proto in enumerate(protos):
+        table += [None] * (descriptors_at(q) - len(table))
+        table += [len(proto.descriptors), *[kind * 256 + number for kind, number in proto.descriptors]]
     return dict(table=table, code=code, const_kinds=kinds, const_words=words, texts=texts)
 
 
@@ -189,7 +227,10 @@ def prototype_at(slices, q):
     words = code[own.first_instruction:after.first_instruction]
     if None in constants or any(word >= 2**40 for word in words):
         return None
-    return Prototype(own.registers, own.parameters, constants, [unpacked(word) for word in words])
+    descriptors = descriptor_words(table, q)
+    if descriptors is None or any(word >= 512 for word in descriptors):
+        return None
+    return Prototype(own.registers, own.parameters, constants, [unpacked(word) for word in words], [Descriptor(*divmod(word, 256)) for word in descriptors])
 
 
 def read_back(slices):
@@ -204,4 +245,4 @@ def read_back(slices):
         parse(printed(protos).encode())
     except Refused:
         return None
-    return protos if all(slices[name][:len(front)] == front for name, front in stored(protos).items()) else None
+    return protos if all(cell in (None, has) for name, front in stored(protos).items() for cell, has in zip(front, slices[name])) else None

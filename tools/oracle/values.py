@@ -1,7 +1,7 @@
 """Values, and what the operators make of them: document 01, "Arithmetic and order"; `Mod` of numbers is document 02's, 3/12.
 
 A value is a kind and a word: nil 0 and 0; boolean 1 and 0 or 1; integer 2 and its 64 bits; number 3 and its 64 bits; string 4 and the number of
-its constant in the whole image; function 5 and its prototype.
+its constant in the whole image; function 5 and its closure's entry (machine.py).
 
 `demand_fit` raises Unfit where an operation doesn't take its operands, and alone says which of them is named; what works a value out is asked
 after it. The floats are Python's; tools/vectors/reference.py does without them."""

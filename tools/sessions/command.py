@@ -118,8 +118,8 @@ class Case(unittest.TestCase):
 
 class Statuses(Case):
     def test_an_answer_has_its_status(self):
-        for name, status in (('values', 0), ('1-empty', 3), ('2-kind', 3), ('4-nothing', 3), ('10-close', 3), ('15-none', 3), ('30-add', 1),
-                             ('46-zero', 1), ('50-call', 1), ('52-wide', 1), ('70-endless', 4)):
+        for name, status in (('values', 0), ('1-empty', 3), ('2-kind', 3), ('4-nothing', 3), ('10-count', 3), ('15-none', 3), ('16-first', 3),
+                             ('30-add', 1), ('46-zero', 1), ('50-call', 1), ('54-cells', 1), ('70-endless', 4)):
             for shell in SHELLS:
                 with self.subTest(name=name, shell=shell):
                     done = run(shell=shell, stdin=image(name))
@@ -376,7 +376,7 @@ class Words(Case):
 
     def test_version(self):
         for shell in SHELLS:
-            self.ended(0, 'deletion 0.2.0\n', '', run('--version', shell=shell))
+            self.ended(0, 'deletion 0.3.0\n', '', run('--version', shell=shell))
 
     def test_an_unknown_option_is_named(self):
         for word in ('-x', '--budgets', '-h', '---', '--budget5'):
@@ -505,9 +505,9 @@ class Handing(Copy):
 
     def test_answers(self):
         """By --help's table; 5, 6 and 60 are none that the program gives, nor is nothing."""
-        statuses = {0: 0, 20: 2, 70: 4, 5: 2, 6: 2, 16: 2, 29: 2, 47: 2, 49: 2, 53: 2, 60: 2, 69: 2, 71: 2, 255: 2}
-        statuses.update({number: 3 for number in (*range(1, 5), *range(10, 16))})
-        statuses.update({number: 1 for number in (*range(30, 47), *range(50, 53))})
+        statuses = {0: 0, 20: 2, 70: 4, 5: 2, 6: 2, 17: 2, 29: 2, 47: 2, 49: 2, 55: 2, 60: 2, 69: 2, 71: 2, 255: 2}
+        statuses.update({number: 3 for number in (*range(1, 5), *range(10, 17))})
+        statuses.update({number: 1 for number in (*range(30, 47), *range(50, 55))})
         for number, status in statuses.items():
             answer = 'f0%02x0000000000000000\n' % number
             self.program(answer)

@@ -24,7 +24,7 @@ ANSWERS = []
 RUNS = [0]
 
 # What crates/states/src/main.rt reads of its standard input.
-MOST_BYTES = 524288
+MOST_BYTES = 1048576
 SLICES = dict(zip('tckwxfrv', SIZES))
 STATE = 'frv'
 ALL = '1' * 8
@@ -41,8 +41,8 @@ def s(constant):
     return 4, constant
 
 
-def fn(prototype):
-    return 5, prototype
+def fn(entry):
+    return 5, entry
 
 
 NIL, FALSE, TRUE = (0, 0), (1, 0), (1, 1)
@@ -66,7 +66,7 @@ def op(name, *operands, flags=0):
     """An instruction's five bytes; an index or an offset is one operand."""
     operation = NUMBER_OF[name] if isinstance(name, str) else name
     operands = list(operands)
-    if name == 'Jump':
+    if name == 'Jump' and len(operands) == 1:
         operands.insert(0, 255)
     if name in ('Jump', 'LoadConstant', 'NumericForPrep', 'NumericForLoop'):
         wide = operands.pop() % 65536
@@ -74,8 +74,8 @@ def op(name, *operands, flags=0):
     return Instruction(operation, flags, *operands, *[0] * (3 - len(operands)))
 
 
-def proto(registers, parameters, constants, code):
-    return Prototype(registers, parameters, [const(value) for value in constants], code)
+def proto(registers, parameters, constants, code, descriptors=()):
+    return Prototype(registers, parameters, [const(value) for value in constants], code, descriptors)
 
 
 RETURN = op('Return', 0, 0)
@@ -83,9 +83,18 @@ RETURN = op('Return', 0, 0)
 
 # ---- a case
 
-# Operator errors, which name an operand, and those of Call, which don't.
+# Operator errors, which name an operand, and those of Call and Closure, which don't.
 OPERATOR_ERRORS = range(30, 47)
-LUA_ERRORS = (*OPERATOR_ERRORS, 50, 51, 52)
+LUA_ERRORS = (*OPERATOR_ERRORS, 50, 51, 52, 53, 54)
+
+# ---- where closures stand in the state
+
+# A word for each activation's closure; then 64 entries of 9 words, the prototype and 8 cells; then 128 cells. Their values stand behind the registers.
+HELD, ENTRIES, ENTRY, CELLS, END, VALUES, VALUES_END = 34, 50, 9, 626, 754, 2308, 2436
+
+
+def entry_at(e):
+    return ENTRIES + ENTRY * e
 
 
 def whole(expected):
@@ -98,7 +107,10 @@ def whole(expected):
 
 class Case:
     def __init__(self, name, protos):
-        self.machine = Machine(state=0x5a, beyond=1)
+        self.machine = m = Machine(state=0x5a, beyond=1)
+        m.frames[ENTRIES:END] = [0] * (END - ENTRIES)
+        m.kinds[VALUES:VALUES_END] = m.words[VALUES:VALUES_END] = [0] * (VALUES_END - VALUES)
+        self.protos = protos
         image = printed(protos)
         assert '#' not in name
         LIST.append('# %s\n%s<\n' % (name, image))
@@ -141,19 +153,43 @@ class Case:
             slice = SLICES[letter]
             setattr(self.machine, slice, [0] * len(getattr(self.machine, slice)))
 
+    def becomes(self, letter, at, x):
+        """A cell is set where it holds something else."""
+        if getattr(self.machine, SLICES[letter])[at] != x:
+            self.set(letter, at, x)
+
+    def entry(self, e, prototype, *cells):
+        """A closure entry that is in use."""
+        words = [prototype + 1, *[cell + 1 for cell in cells]]
+        for at, x in enumerate(words + [0] * (ENTRY - len(words)), entry_at(e)):
+            self.becomes('f', at, x)
+
+    def entry_of(self, prototype):
+        """An entry of a prototype that has no descriptors: one that is there, or the first free one from its own number on."""
+        held = [self.machine.frames[entry_at(e)] for e in range(64)]
+        if prototype + 1 in held:
+            return held.index(prototype + 1)
+        e = held.index(0, prototype)
+        self.entry(e, prototype)
+        return e
+
     def at(self, *places, mark=70):
-        """The mark and the activations."""
+        """The mark and the activations; each but the outermost with a closure of its prototype, where that is there and has no descriptors."""
         for at, x in enumerate(framed(mark, *places)):
-            if self.machine.frames[at] != x:
-                self.set('f', at, x)
+            self.becomes('f', at, x)
+        self.becomes('f', HELD, 0)
+        for at, (prototype, _) in enumerate(places[1:], HELD + 1):
+            if prototype < len(self.protos) and not self.protos[prototype].descriptors:
+                self.becomes('f', at, self.entry_of(prototype) + 1)
 
     def put(self, *values, first=0):
-        """Registers from `first` on."""
+        """Registers from `first` on. Where a function's entry is free, it becomes one of the prototype of the same number."""
+        for kind, word in values:
+            if kind == 5 and word < len(self.protos) and not self.machine.frames[entry_at(word)]:
+                self.entry(word, word)
         for at, (kind, word) in enumerate(values, first):
-            if self.machine.kinds[at] != kind:
-                self.set('r', at, kind)
-            if self.machine.words[at] != word:
-                self.set('v', at, word)
+            self.becomes('r', at, kind)
+            self.becomes('v', at, word)
 
     def start(self, expected, *arguments, lend=ALL, kinds=None, words=None):
         """kinds, words: how many are lent, where not as many as there are arguments."""
@@ -189,6 +225,33 @@ class Case:
         """Registers from `first` on, written by hand: nothing is written to the list."""
         got = [(self.machine.kinds[at], self.machine.words[at]) for at in range(first, first + len(values))]
         assert got == list(values), (self.name, got, values)
+
+    def made(self, e, prototype, *cells):
+        """Closure entry e, written by hand: nothing is written to the list."""
+        words = [prototype + 1, *[cell + 1 for cell in cells]]
+        got = self.machine.frames[entry_at(e):entry_at(e + 1)]
+        assert got == words + [0] * (ENTRY - len(words)), (self.name, got)
+
+    def free(self, entries, cells):
+        """From these numbers on all entries and cells are free and zero: nothing is written to the list."""
+        m = self.machine
+        assert not any(m.frames[entry_at(entries):CELLS] + m.frames[CELLS + cells:END] + m.kinds[VALUES + cells:VALUES_END]), self.name
+
+    def opened(self, *registers, first=0):
+        """Cells from `first` on are open on these registers: nothing is written to the list."""
+        got = self.machine.frames[CELLS + first:CELLS + first + len(registers)]
+        assert got == [2 + r for r in registers], (self.name, got)
+
+    def closed(self, *values, first=0):
+        """Cells from `first` on are closed over these values: nothing is written to the list."""
+        got = self.machine.frames[CELLS + first:CELLS + first + len(values)]
+        assert got == [1] * len(values), (self.name, got)
+        self.holds(*values, first=VALUES + first)
+
+    def cells(self, *words, first=0):
+        """Cells from `first` on become this: 0 free, 1 closed, 2 + r open on register r."""
+        for at, word in enumerate(words, CELLS + first):
+            self.becomes('f', at, word)
 
     def stands(self, *expected, lend=ALL):
         return self.answered('?', '?%s' % lend, whole(expected), lend, lambda m: m.run(0))
@@ -234,7 +297,7 @@ def starts():
 
     good = proto(4, 0, [NIL], [op('Move', 0, 1), RETURN])
     for number, what, five in BROKEN:
-        case = Case('start: %d before 20, %s' % (number, what), [good, (4, 0, [const(NIL)], [op('Move', 0, 1), five, RETURN])])
+        case = Case('start: %d before 20, %s' % (number, what), [good, proto(4, 0, [NIL], [op('Move', 0, 1), five, RETURN])])
         case.start((number, 1, 1))
         case.start((number, 1, 1), fn(0))
     case = Case('start: 14, a prototype without instructions', [good, proto(1, 0, [], [])])
@@ -306,7 +369,6 @@ BROKEN = [
     (10, 'Call of 255 arguments', op('Call', 0, 255, 0)),
     (10, 'Call for 255 values', op('Call', 0, 0, 255)),
     (10, 'Return of 255', op('Return', 0, 255)),
-    (10, 'Jump that closes 0', (14, 0, 0, 0, 0)),
     (11, 'Move with a third byte', op('Move', 0, 1, 1)),
     (11, 'Not with flag 1', op('Not', 0, 1, flags=1)),
     (11, 'Minus with flag 128', op('Minus', 0, 1, flags=128)),
@@ -326,6 +388,10 @@ BROKEN = [
     (12, 'NumericForLoop with the copy at register 4', op('NumericForLoop', 1, 0)),
     (12, 'Add with register 255', op('Add', 0, 255, 0)),
     (12, 'Minus into register 4', op('Minus', 4, 0)),
+    (12, 'Jump that closes register 4', op('Jump', 4, 0)),
+    (12, 'Jump that closes register 254', op('Jump', 254, 0)),
+    (12, 'GetUpValue into register 4', op('GetUpValue', 4, 0)),
+    (12, 'SetUpValue from register 4', op('SetUpValue', 0, 4)),
     (13, 'LoadConstant 1', op('LoadConstant', 0, 1)),
     (13, 'LoadConstant 256', op('LoadConstant', 0, 256)),
     (13, 'Add with constant 1 on the left', op('Add', 0, 1, 0, flags=1)),
@@ -341,6 +407,8 @@ BROKEN = [
     (14, 'LoadBool with nothing to skip to', op('LoadBool', 0, 0, 1)),
     (15, 'Closure 2', op('Closure', 0, 2)),
     (15, 'Closure 255', op('Closure', 0, 255)),
+    (16, 'GetUpValue of none', op('GetUpValue', 0, 0)),
+    (16, 'SetUpValue of none', op('SetUpValue', 0, 0)),
 ]
 
 
@@ -1281,7 +1349,7 @@ def budgets():
 
 def faults():
     for number, what, five in BROKEN:
-        image = [(4, 0, [const(NIL)], [op('Closure', 3, 1), five, RETURN]), proto(1, 0, [], [RETURN])]
+        image = [proto(4, 0, [NIL], [op('Closure', 3, 1), five, RETURN]), proto(1, 0, [], [RETURN])]
         case = Case('fault: %d, %s' % (number, what), image)
         case.start((number, 0, 1))
         case.clear()
@@ -1441,7 +1509,7 @@ def unfit():
     fits('what lies beyond the used storage', (70, 0, 2, 0), ('t', 17, 5), ('c', 10, MOST), ('k', 4, 9), ('w', 4, 9), ('x', 2, 9)).run(4, 0, 4, 0, 3)
 
     # the mark
-    for mark in (1, 2, 5, 10, 20, 29, 47, 49, 53, 60, 69, 71, 255, 256, 2**32, 2**32 + 70, MOST):
+    for mark in (1, 2, 5, 10, 20, 29, 47, 49, 55, 60, 69, 71, 255, 256, 2**32, 2**32 + 70, MOST):
         causes('mark %d' % mark, ('f', 0, mark))
     for mark in LUA_ERRORS:
         case = fits('mark %d, whatever its instruction' % mark, (mark, 0, 2, 0, 0), ('f', 0, mark))
@@ -1455,7 +1523,6 @@ def unfit():
     case.at(*[(0, 1)] * 16)
     case.run(0, 70, 0, 0, 1)
     case.set('f', 1, 17)
-    case.set('f', 34, 0)
     case.run(0, 60, 0, 0, 0, lend='11111211')
     case.run(3, 60, 0, 0, 0)
     fits('the second activation is the innermost', (70, 0, 1, 3), ('f', 1, 2)).run(9, 0, 2, 0, 3)
@@ -1500,7 +1567,8 @@ def unfit():
         for p in (0, 1, 2):
             causes('%s stands at %d, not after a Call' % (who, p), ('f', slot, p))
     fits('the innermost activation stands at its last instruction', (70, 0, 2, 1), ('f', 7, 1)).run(9, 0, 3, 0, 3)
-    fits('the innermost activation is of another prototype', (70, 0, 1, 3), ('f', 6, 1), ('f', 7, 3), ('r', 8, 0), ('v', 8, 0))
+    # entry 0 is of prototype 1
+    fits('the innermost activation is of another prototype', (70, 0, 1, 3), ('f', 6, 1), ('f', 7, 3), ('f', 36, 1), ('r', 8, 0), ('v', 8, 0))
     case = Case('unfit: the instruction after the last one, which is a Call', [proto(1, 0, [], [RETURN, op('Call', 0, 0, 0)])])
     case.clear()
     case.at((0, 2), (0, 0))
@@ -1541,22 +1609,24 @@ def unfit():
     fits('finished, with a dead register that holds no value', (0, 0, 0, 3), ('f', 0, 0), ('f', 1, 1), ('r', 3, 6))
     causes('failed, with no activation', ('f', 0, 30), ('f', 1, 0))
 
-    # live registers: 3 of the first activation, 3 of the second, 2 of the third; the constants are 5, 's', 2.0, 't'
+    # live registers: 3 of the first activation, 3 of the second, 2 of the third; the constants are 5, 's', 2.0, 't'; entries 0 and 1 are in use
     nothing = [('kind 6', (6, 0)), ('kind 90', (90, 0)), ('kind 255', (255, 0)), ('boolean 2', (1, 2)), ('boolean 2^64 - 1', (1, MOST)),
-               ('boolean 256', (1, 256)), ('nil with word 1', (0, 1)), ('nil with word 2^63', (0, 2**63)), ('function 3 of 3', fn(3)),
-               ('function 2^32', fn(2**32)), ('function 2^64 - 1', fn(MOST)), ('string 4 of 4', s(4)), ('string 0, an integer', s(0)),
+               ('boolean 256', (1, 256)), ('nil with word 1', (0, 1)), ('nil with word 2^63', (0, 2**63)),
+               ('function 2, a free entry', fn(2)), ('function 63, a free entry', fn(63)), ('function 64', fn(64)), ('function 2^32', fn(2**32)),
+               ('function 2^64 - 1', fn(MOST)), ('string 4 of 4', s(4)), ('string 0, an integer', s(0)),
                ('string 2, a number', s(2)), ('string 2^32 + 1', s(2**32 + 1)), ('string 2^64 - 1', s(MOST))]
     for what, value in nothing:
         for r in (0, 2, 3, 7):
             causes('register %d holds %s' % (r, what), ('r', r, value[0]), ('v', r, value[1]))
         case = nested('fit: the dead registers 8 and 2,307 hold %s' % what)
-        case.put(value, first=8)
-        case.put(value, first=2307)
+        for r in (8, 2307):
+            case.becomes('r', r, value[0])
+            case.becomes('v', r, value[1])
         case.run(0, 70, 0, 2, 0)
         case.run(4, 0, 4, 0, 3)
     causes('register 7 holds string 4, a string beyond the constants', ('k', 4, 4), ('w', 4, 2 * 65536), ('r', 7, 4), ('v', 7, 4))
     for what, value in (('false', FALSE), ('true', TRUE), ('the smallest', i(SMALLEST)), ('a NaN', OTHER_NAN), ('string 1', s(1)),
-                        ('string 3, of another prototype', s(3)), ('function 0', fn(0)), ('function 2', fn(2))):
+                        ('string 3, of another prototype', s(3)), ('function 0', fn(0)), ('function 1', fn(1))):
         for r in (0, 7):
             fits('register %d holds %s' % (r, what), (70, 0, 2, 0), ('r', r, value[0]), ('v', r, value[1])).run(4, 0, 4, 0, 3)
     case = Case('unfit: registers 2,047 and 2,048', [
@@ -1586,9 +1656,679 @@ def unfit():
     case.run(5, 60, 0, 0, 0)
 
 
+# ---- closures: document 02, 6/12
+
+def starts_with_closures():
+    case = Case('closures: a start frees every entry and every cell', [proto(2, 0, [], [op('Closure', 0, 1), RETURN]), proto(1, 0, [], [RETURN])])
+    for at in range(HELD, END):
+        case.becomes('f', at, at)
+    for at in range(VALUES, VALUES_END):
+        case.becomes('r', at, 1 + at % 6)
+        case.becomes('v', at, at)
+    case.start((20, 0, 0), fn(0))
+    case.start((5, 0, 0), lend='11111011')
+    case.start(0)
+    case.free(0, 0)
+    case.run(0, 70, 0, 0, 0)
+    case.run(1, 70, 1, 0, 1)
+    case.made(0, 1)
+    case = Case('closures: a start over entries and cells in use', CAPTURED)
+    for _ in range(2):
+        case.start(0)
+        case.free(0, 0)
+        case.run(9, 70, 9, 2, 0)
+    case.start((5, 0, 0), lend='11111101')
+    case.run(7, 0, 7, 0, 6)
+    case.start(0)
+    case.free(0, 0)
+    for what, protos in (
+            ('descriptors on prototype 0', [proto(1, 0, [], [RETURN], [(0, 0)])]),
+            ('a descriptor out of range', [proto(1, 0, [], [op('Closure', 0, 1), RETURN]), proto(1, 0, [], [RETURN], [(0, 1)])])):
+        case = Case('closures: start: 16 before 20, %s' % what, protos)
+        case.set('f', entry_at(3), 2)
+        case.start((16, 0, 0))
+        case.start((16, 0, 0), fn(0))
+    for what, change in (('9 descriptors', ('t', 142, 9)), ('a descriptor 512', ('t', 143, 512)), ('a descriptor 2^64 - 1', ('t', 144, MOST))):
+        case = Case('closures: 6, %s' % what, CAPTURED)
+        case.start(0)
+        case.run(2, 70, 2, 0, 2)
+        letter, at, old = case.set(*change)
+        case.start((6, 0, 0))
+        case.stands(60, 0, 0, 0)
+        case.run(1, 60, 0, 0, 0)
+        case.set(letter, at, old)
+        case.run(14, 0, 14, 0, 6)
+    case = Case('closures: what the table holds behind the descriptors', CAPTURED)
+    for at in (134, 141, 145, 150, 178, 420):
+        case.set('t', at, MOST)
+    case.start(0)
+    case.run(100, 0, 16, 0, 6)
+
+
+# In the third activation after nine instructions, with cells open in the first two windows and one that is closed; sixteen in all.
+CAPTURED = [
+    proto(4, 0, [i(5), b's'], [
+        op('Closure', 3, 3), op('Jump', 3, 0), op('LoadConstant', 0, 0), op('LoadConstant', 1, 1), op('Closure', 2, 1), op('Call', 2, 0, 1),
+        op('Return', 0, 4)]),
+    proto(3, 0, [], [op('GetUpValue', 0, 0), op('Closure', 1, 2), op('Call', 1, 0, 1), op('Return', 1, 1)], [(0, 0), (0, 1)]),
+    proto(2, 0, [], [
+        op('GetUpValue', 0, 1), op('SetUpValue', 0, 0), op('Closure', 1, 4), op('SetUpValue', 2, 1), op('Return', 0, 1)], [(0, 0), (1, 1), (0, 2)]),
+    proto(1, 0, [], [op('GetUpValue', 0, 0), op('Return', 0, 1)], [(0, 3)]),
+    proto(1, 0, [], [RETURN]),
+]
+
+
+def closures():
+    case = Case('closures: one run, step by step', CAPTURED)
+    case.start(0)
+    case.run(1, 70, 1, 0, 1)
+    case.made(0, 3, 0)
+    case.opened(3)
+    case.holds(NIL, NIL, NIL, fn(0))
+    case.run(1, 70, 1, 0, 2)
+    case.closed(fn(0))
+    case.run(3, 70, 3, 0, 5)
+    case.made(1, 1, 1, 2)
+    case.opened(0, 1, first=1)
+    case.free(2, 3)
+    case.run(1, 70, 1, 1, 0)
+    assert case.machine.frames[HELD:HELD + 2] == [0, 2]
+    case.run(2, 70, 2, 1, 2)
+    case.holds(i(5), fn(2), NIL, first=4)
+    case.made(2, 2, 3, 2, 4)
+    case.opened(4, 6, first=3)
+    case.run(1, 70, 1, 2, 0)
+    assert case.machine.frames[HELD:HELD + 3] == [0, 2, 3]
+    case.run(4, 70, 4, 2, 4)
+    case.holds(s(1), fn(2), fn(3), s(1), fn(3), first=4)
+    case.made(3, 4)
+    case.run(1, 70, 1, 1, 3)
+    case.opened(4, 6, first=3)
+    case.run(1, 70, 1, 0, 6)
+    case.closed(s(1), fn(3), first=3)
+    case.opened(0, 1, first=1)
+    case.holds(i(5), s(1), s(1), fn(0))
+    case.run(1, 0, 1, 0, 6)
+    case.closed(fn(0), i(5), s(1), s(1), fn(3))
+    case.run(5, 0, 0, 0, 6)
+    case = Case('closures: two runs against one', CAPTURED)
+    for first in range(17):
+        case.start(0)
+        case.run(first)
+        if first < 16:
+            case.run(16 - first, 0, 16 - first, 0, 6)
+    case.start(0)
+    for _ in range(15):
+        case.run(1)
+    case.run(1, 0, 1, 0, 6)
+
+    # Of one value each: what a closure reads and sets is the register, and once it is closed the cell.
+    values = [NIL, FALSE, TRUE, i(SMALLEST), f(-0.0), OTHER_NAN, s(0), fn(0), fn(1)]
+    reads = proto(2, 0, [], [op('GetUpValue', 1, 0), op('SetUpValue', 0, 0), RETURN], [(0, 2)])
+    for what, word in (('an open cell', 2 + 2), ('a closed cell', 1)):
+        case = Case('closures: GetUpValue and SetUpValue of %s' % what, [
+            proto(3, 0, [b'x'], [op('Call', 0, 0, 0), RETURN]), reads, proto(1, 0, [], [RETURN])])
+        case.clear()
+        case.entry(0, 1, 0)
+        case.entry(1, 2)
+        case.cells(word)
+        where = 2 if word > 1 else VALUES
+        for old in values:
+            for new in (NIL, i(7), fn(1), s(0)):
+                case.at((0, 1), (1, 0))
+                case.becomes('f', HELD + 1, 1)
+                case.put(old, first=where)
+                case.put(new, i(99), first=3)
+                case.run(1, 70, 1, 1, 1)
+                case.holds(new, old, first=3)
+                case.run(1, 70, 1, 1, 2)
+                case.holds(new, first=where)
+        case.holds(*[NIL] * 2)
+
+    case = Case('closures: upvalue 7 of 8, cells in any order', [
+        proto(4, 0, [], [op('Call', 0, 0, 0), RETURN]),
+        proto(2, 0, [], [op('GetUpValue', 0, 7), op('GetUpValue', 1, 0), op('SetUpValue', 6, 0), op('SetUpValue', 3, 1), RETURN], [(0, 0)] * 8)])
+    case.clear()
+    case.entry(5, 1, 127, 3, 9, 100, 3, 64, 126, 8)
+    case.cells(2 + 1, first=3)
+    case.cells(1, 2 + 2, first=8)
+    case.cells(1, first=64)
+    case.cells(1, first=100)
+    case.cells(2 + 3, 1, first=126)
+    case.at((0, 1), (1, 0))
+    case.set('f', HELD + 1, 6)
+    case.put(i(8), first=VALUES + 8)
+    case.put(i(127), first=VALUES + 127)
+    case.put(i(100), first=VALUES + 100)
+    case.put(i(1), i(2), i(3), first=1)
+    case.run(4, 70, 4, 1, 4)
+    case.holds(NIL, i(1), i(2), i(8), i(8), i(127))
+    case.closed(i(127), first=100)
+    case.run(1, 70, 1, 0, 1)
+    case.opened(1, first=3)
+
+    # Whatever writes the register writes the cell, and what sets the upvalue sets the register.
+    shared = [
+        proto(5, 0, [i(1), i(3), i(1)], [
+            op('Closure', 4, 1), op('LoadConstant', 0, 1), op('LoadConstant', 1, 1), op('LoadConstant', 2, 2), op('NumericForPrep', 0, 1),
+            op('Call', 4, 0, 0), op('NumericForLoop', 0, -2), op('Closure', 4, 2), op('Call', 4, 0, 1), op('Return', 0, 5)]),
+        proto(2, 0, [], [op('GetUpValue', 0, 0), op('Add', 0, 0, 0), op('SetUpValue', 0, 0), RETURN], [(0, 3)]),
+        proto(1, 0, [], [op('GetUpValue', 0, 1), op('Return', 0, 1)], [(0, 0), (0, 3)])]
+    case = Case('closures: a register that a loop writes and a closure sets', shared)
+    case.start(0)
+    while case.run(1)[0]:
+        pass
+    case.holds(i(4), i(3), i(1), i(6), i(6))
+    case.closed(i(6), i(4))
+    makers = [
+        proto(3, 0, [i(40)], [op('LoadConstant', 0, 0), op('Closure', 1, 2), op('Closure', 2, 3), op('Return', 1, 2)]),
+        proto(1, 0, [i(1)], [op('GetUpValue', 0, 0), op('Add', 0, 0, 0, flags=2), op('SetUpValue', 0, 0), RETURN], [(0, 0)]),
+        proto(1, 0, [], [op('GetUpValue', 0, 0), op('Return', 0, 1)], [(0, 0)])]
+    case = Case('closures: two over one register share it, and go on sharing when it is closed', [
+        proto(4, 0, [], [op('Closure', 0, 1), op('Call', 0, 0, 2), op('Move', 2, 0), op('Call', 2, 0, 0), op('Move', 2, 0), op('Call', 2, 0, 0),
+                         op('Move', 2, 1), op('Call', 2, 0, 1), op('Return', 2, 1)]), *makers])
+    case.start(0)
+    case.run(5, 70, 5, 1, 3)
+    case.made(1, 2, 0)
+    case.made(2, 3, 0)
+    case.opened(4)
+    case.run(1, 70, 1, 0, 2)
+    case.closed(i(40))
+    case.run(100, 0, 17, 0, 8)
+    case.holds(i(42), first=2)
+    case.closed(i(42))
+    case.free(3, 1)
+    case = Case('closures: each call of a maker makes cells and entries of its own', [
+        proto(5, 0, [], [op('Closure', 4, 1), op('Move', 0, 4), op('Call', 0, 0, 2), op('Move', 2, 4), op('Call', 2, 0, 2), op('Eq', 1, 0, 2), RETURN,
+                         op('Call', 0, 0, 0), op('Call', 1, 0, 1), op('Call', 3, 0, 1), op('Return', 0, 5)]), *makers])
+    case.start(0)
+    case.run(13, 70, 13, 0, 5)
+    case.made(1, 2, 0)
+    case.made(2, 3, 0)
+    case.made(3, 2, 1)
+    case.made(4, 3, 1)
+    case.closed(i(40), i(40))
+    # Two of one prototype aren't equal: no skip.
+    case.run(1, 70, 1, 0, 6)
+    case.at((0, 7))
+    case.run(100, 0, 12, 0, 10)
+    case.closed(i(41), i(40))
+    case.holds(i(41), fn(3), i(40), first=1)
+
+
+def captures():
+    """What a Closure takes: the state before it by hand, in the second of two windows, whose own closure has two cells."""
+    def capturing(what, descriptors, entries=(), cells=()):
+        case = Case('closures: %s' % what, [
+            proto(3, 0, [], [op('Call', 0, 0, 0), RETURN]), proto(4, 0, [], [op('Closure', 3, 2), op('Return', 0, 4)], [(0, 0), (0, 1)]),
+            proto(1, 0, [], [RETURN], descriptors)])
+        case.clear()
+        case.at((0, 1), (1, 0))
+        case.entry(0, 1, 0, 1)
+        case.set('f', HELD + 1, 1)
+        case.cells(1, 2 + 1)
+        for e, cell in entries:
+            case.entry(e, 1, cell, cell)
+        for cell, word in cells:
+            case.cells(word, first=cell)
+        case.put(i(10), i(11), i(12), i(13), first=3)
+        return case
+
+    # Registers of the second window are 3 to 6.
+    for what, descriptors, opened, held in (
+            ('nothing', [], [], []),
+            ('a register', [(0, 0)], [3], [2]),
+            ('the last register, which is its dest', [(0, 3)], [6], [2]),
+            ('registers in descending order', [(0, 2), (0, 1), (0, 0)], [5, 4, 3], [2, 3, 4]),
+            ('a register twice', [(0, 1), (0, 1)], [4], [2, 2]),
+            ('a register twice, another between', [(0, 1), (0, 2), (0, 1)], [4, 5], [2, 3, 2]),
+            ('a closed upvalue', [(1, 0)], [], [0]),
+            ('an open upvalue', [(1, 1)], [], [1]),
+            ('an upvalue twice', [(1, 1), (1, 1)], [], [1, 1]),
+            ('registers and upvalues', [(1, 1), (0, 0), (1, 0), (0, 3)], [3, 6], [1, 2, 0, 3]),
+            ('8, of which 4 registers', [(0, 0), (1, 0), (0, 1), (1, 1), (0, 2), (1, 0), (0, 3), (1, 1)], [3, 4, 5, 6], [2, 0, 3, 1, 4, 0, 5, 1])):
+        case = capturing('captures: %s' % what, descriptors)
+        case.run(1, 70, 1, 1, 1)
+        case.made(1, 2, *held)
+        case.opened(*opened, first=2)
+        case.free(2, 2 + len(opened))
+        case.holds(i(10), i(11), i(12), fn(1), first=3)
+        case.run(1, 70, 1, 0, 1)
+        case.closed(*[(i(10), i(11), i(12), fn(1))[r - 3] for r in opened], first=2)
+        case.opened(1, first=1)
+    case = capturing('captures: registers that have open cells', [(0, 0), (0, 1), (0, 2)], cells=[(5, 2 + 4), (9, 2 + 3)])
+    case.run(1, 70, 1, 1, 1)
+    case.made(1, 2, 9, 5, 2)
+    case.opened(5, first=2)
+    case = capturing('captures: a register whose cell was closed', [(0, 0)], cells=[(2, 1)])
+    case.run(1, 70, 1, 1, 1)
+    case.made(1, 2, 3)
+    case.opened(3, first=3)
+    case.closed(NIL, first=2)
+    case = capturing('captures: the lowest free entry and the lowest free cells', [(0, 2), (0, 0), (0, 1)], [(1, 0), (2, 0), (4, 0), (63, 0)],
+                     [(3, 1), (5, 1), (127, 1)])
+    case.run(1, 70, 1, 1, 1)
+    case.made(3, 2, 2, 4, 6)
+    case.opened(5, first=2)
+    case.opened(3, first=4)
+    case.opened(4, first=6)
+    case = capturing('captures: what is free is written over', [(0, 2)])
+    for at in range(entry_at(1) + 1, entry_at(2)):
+        case.set('f', at, MOST)
+    case.set('r', VALUES + 2, 77)
+    case.set('v', VALUES + 2, MOST)
+    case.run(1, 70, 1, 1, 1)
+    case.made(1, 2, 2)
+    case.opened(5, first=2)
+    assert (case.machine.kinds[VALUES + 2], case.machine.words[VALUES + 2]) == (77, MOST)
+
+    # 53, then 54
+    all_entries = [(e, 0) for e in range(1, 64)]
+    for what, descriptors, entries, free, number in (
+            ('no entry is free, of nothing', [], all_entries, 126, 53),
+            ('no entry is free', [(0, 0)], all_entries, 126, 53),
+            ('no entry is free, and no cell', [(0, 0)], all_entries, 0, 53),
+            ('entry 63 is free', [(0, 0)], all_entries[:-1], 126, 0),
+            ('entry 1 is free', [(0, 0)], all_entries[1:], 126, 0),
+            ('entry 32 is free, and no cell, which an upvalue does not need', [(1, 0), (1, 1)], [x for x in all_entries if x[0] != 32], 0, 0),
+            ('nothing is captured, no cell is free', [], [], 0, 0),
+            ('a register, no cell is free', [(0, 0)], [], 0, 54),
+            ('a register, one cell is free', [(0, 0)], [], 1, 0),
+            ('two registers, one cell is free', [(0, 0), (0, 1)], [], 1, 54),
+            ('two registers, two cells are free', [(0, 0), (0, 1)], [], 2, 0),
+            ('one register twice, one cell is free', [(0, 2), (0, 2)], [], 1, 0),
+            ('four registers and upvalues, three cells are free', [(0, 0), (1, 0), (0, 1), (0, 2), (1, 1), (0, 3)], [], 3, 54),
+            ('four registers and upvalues, four cells are free', [(0, 0), (1, 0), (0, 1), (0, 2), (1, 1), (0, 3)], [], 4, 0),
+            ('entry 63 and one cell are free, of two', [(0, 0), (0, 1)], all_entries[:-1], 1, 54)):
+        case = capturing('%d: %s' % (number, what), descriptors, entries, [(cell, 1) for cell in range(2, 128 - free)])
+        if not number:
+            case.run(1, 70, 1, 1, 1)
+            continue
+        before = list(case.machine.frames)
+        case.run(0, 70, 0, 1, 0)
+        case.run(3, number, 1, 1, 0)
+        assert case.machine.frames[1:] == before[1:]
+        case.holds(i(10), i(11), i(12), i(13), first=3)
+        for budget in (0, 5):
+            case.run(budget, number, 0, 1, 0)
+    case = capturing('54: a register that has an open cell needs none', [(0, 0), (0, 1)], [], [(cell, 1) for cell in range(2, 128)])
+    case.run(1, 54, 1, 1, 0)
+    case.at((0, 1), (1, 0))
+    case.set('f', HELD + 1, 1)
+    case.cells(2 + 4, first=77)
+    case.run(1, 54, 1, 1, 0)
+    case.at((0, 1), (1, 0))
+    case.set('f', HELD + 1, 1)
+    case.cells(2 + 3, first=127)
+    case.run(1, 70, 1, 1, 1)
+    case.made(1, 2, 127, 77)
+
+    maker = [proto(3, 0, [], [op('Closure', 0, 1), op('Jump', -2), RETURN]), proto(1, 0, [], [RETURN])]
+    case = Case('53: the 65th closure of a prototype without descriptors', maker)
+    case.start(0)
+    case.run(127, 70, 127, 0, 1)
+    case.made(63, 1)
+    case.holds(fn(63))
+    case.run(1, 70, 1, 0, 0)
+    case.run(9, 53, 1, 0, 0)
+    case.run(9, 53, 0, 0, 0)
+    case.start(0)
+    case.run(200, 53, 129, 0, 0)
+    closing = [proto(4, 0, [], [op('Closure', 3, 1), op('Jump', 0, -2), RETURN]), proto(1, 0, [], [RETURN], [(0, 0), (0, 1), (0, 2)])]
+    case = Case('54: closed cells stay in use', closing)
+    case.start(0)
+    # 42 times three cells: two are left for the 43rd.
+    case.run(84, 70, 84, 0, 0)
+    case.closed(*[NIL] * 126)
+    case.made(41, 1, 123, 124, 125)
+    case.run(9, 54, 1, 0, 0)
+    case.free(42, 126)
+
+
+def closing():
+    """Six cells, one on each register of both windows."""
+    def ready(what, code, own=3):
+        case = Case('closes: %s' % what, [
+            proto(3, 0, [], [op('Call', 0, 0, 1), op('Return', 0, 3)]), proto(own, 0, [], [*code, op('Return', 0, 1)], [(0, 0)])])
+        case.clear()
+        case.at((0, 1), (1, 0))
+        case.entry(0, 1, 0)
+        case.set('f', HELD + 1, 1)
+        case.cells(2 + 3, 2 + 0, 2 + 5, 2 + 2, 2 + 4, 2 + 1)
+        case.put(*[i(20 + r) for r in range(6)])
+        return case
+
+    for a, still in ((0, [1, 3, 5]), (1, [0, 1, 3, 5]), (2, [0, 1, 3, 4, 5]), (255, [0, 1, 2, 3, 4, 5])):
+        case = ready('Jump from %d on' % a if a < 255 else 'Jump, none', [op('Jump', a, 1), RETURN])
+        case.run(1, 70, 1, 1, 2)
+        for cell, r in enumerate((3, 0, 5, 2, 4, 1)):
+            if cell in still:
+                case.opened(r, first=cell)
+            else:
+                case.closed(i(20 + r), first=cell)
+        case.holds(*[i(20 + r) for r in range(6)])
+        case.run(1, 70, 1, 0, 1)
+        case.opened(0, first=1)
+        case.closed(i(25), first=2)
+        case.closed(i(23), first=0)
+        case.closed(i(24), first=4)
+        case.holds(i(23), i(21), i(22))
+        case.run(1, 0, 1, 0, 1)
+        case.closed(i(23), i(23), i(25), i(22), i(24), i(21))
+    case = ready('what is closed is no longer the register', [
+        op('Jump', 0, 0), op('LoadBool', 0, 1, 0), op('LoadNil', 1, 2), op('GetUpValue', 1, 0), op('SetUpValue', 0, 0), op('GetUpValue', 2, 0)])
+    case.run(6, 70, 6, 1, 6)
+    case.holds(TRUE, i(23), TRUE, first=3)
+    case.closed(TRUE)
+    case = ready('a Jump that goes nowhere else', [op('Jump', 1, -1)])
+    for _ in range(3):
+        case.run(1, 70, 1, 1, 0)
+    case.closed(i(25), first=2)
+    case.opened(3)
+    case = Case('closes: nothing is open', [proto(2, 0, [], [op('Jump', 0, 0), op('Jump', 1, 0), op('Jump', 255, 0), RETURN])])
+    case.start(0)
+    case.run(4, 0, 4, 0, 3)
+    case.free(0, 0)
+    case = Case('closes: the last Return closes too', [proto(4, 0, [i(3)], [
+        op('LoadConstant', 1, 0), op('Closure', 2, 1), op('Return', 1, 2)]), proto(1, 0, [], [RETURN], [(0, 3), (0, 1)])])
+    case.start(0)
+    case.run(2, 70, 2, 0, 2)
+    case.opened(3, 1)
+    case.run(1, 0, 1, 0, 2)
+    case.closed(NIL, i(3))
+    case.run(1, 0, 0, 0, 2)
+    case = Case('closes: values are handed down into a register that a cell is open on', [
+        proto(3, 0, [i(1)], [op('Closure', 0, 1), op('Closure', 1, 2), op('Call', 1, 0, 1), op('Call', 0, 0, 1), op('Return', 0, 2)]),
+        proto(1, 0, [], [op('GetUpValue', 0, 0), op('Return', 0, 1)], [(0, 1)]),
+        proto(1, 0, [i(9)], [op('LoadConstant', 0, 0), op('Return', 0, 1)])])
+    case.start(0)
+    case.run(5, 70, 5, 0, 3)
+    case.holds(fn(0), i(9))
+    case.run(9, 0, 4, 0, 4)
+    case.holds(i(9), i(9))
+    case = Case('closes: a callee sets the register of its own function, and returns all the same', [
+        proto(2, 0, [], [op('Closure', 0, 1), op('Call', 0, 0, 1), op('Return', 0, 2)]),
+        proto(2, 0, [i(4)], [op('LoadConstant', 0, 0), op('SetUpValue', 0, 0), op('GetUpValue', 1, 0), op('Return', 1, 1)], [(0, 0)])])
+    case.start(0)
+    case.run(4, 70, 4, 1, 2)
+    case.holds(i(4))
+    case.run(9, 0, 3, 0, 2)
+    case.holds(i(4))
+    case = Case('closes: recursion through an upvalue', [
+        proto(3, 0, [i(6)], [op('Closure', 0, 1), op('Move', 1, 0), op('LoadConstant', 2, 0), op('Call', 1, 1, 1), op('Return', 1, 1)]),
+        proto(4, 1, [i(1)], [
+            op('Less', 1, 0, 0, flags=1), op('Jump', 255, 4), op('GetUpValue', 1, 0), op('Sub', 2, 0, 0, flags=2), op('Call', 1, 1, 1),
+            op('Mul', 0, 0, 1), op('Return', 0, 1)], [(0, 0)])])
+    case.start(0)
+    assert case.run(1000)[0] == 0
+    case.holds(fn(0), i(720))
+    # Errors, 70 and 60 close nothing.
+    for what, five, answer in (
+            ('an error', op('Minus', 2, 1), (36, 1, 1, 0, 1)), ('a Call of no function', op('Call', 0, 0, 0), (50, 1, 1, 0)),
+            ('a fault', op('Jump', 3, 0), (60, 0, 1, 0))):
+        case = ready('%s closes nothing' % what, [five])
+        case.put(NIL, NIL, first=3)
+        case.run(5, *answer)
+        case.opened(3, 0, 5, 2, 4, 1)
+        case.run(5, *([60, 0, 1, 0] if answer[0] == 60 else [answer[0], 0, *answer[2:]]))
+
+
+def equal_closures():
+    case = Case('closures: equal where they are one entry', [
+        proto(3, 0, [], [op('Eq', 1, 0, 1), RETURN, RETURN, op('Less', 1, 0, 1), RETURN, RETURN, op('LessEq', 1, 0, 1), RETURN, RETURN]),
+        proto(1, 0, [], [RETURN]), proto(1, 0, [], [RETURN])])
+    case.clear()
+    for e, prototype in ((0, 1), (1, 1), (2, 2), (63, 1)):
+        case.entry(e, prototype)
+    for left in (0, 1, 2, 63):
+        for right in (0, 1, 2, 63):
+            case.put(fn(left), fn(right))
+            case.at((0, 0))
+            case.run(1, 70, 1, 0, 2 if left == right else 1)
+            case.at((0, 3))
+            case.run(1, 43, 1, 0, 3, 1)
+            case.at((0, 6))
+            case.run(1, 44, 1, 0, 6, 1)
+    for e in (0, 1, 2, 63):
+        for other in (NIL, FALSE, i(e), f(float(e))):
+            case.at((0, 0))
+            case.put(fn(e), other)
+            case.run(1, 70, 1, 0, 1)
+    case = Case('closures: a Call of each entry enters its prototype', [
+        proto(2, 0, [], [op('Call', 0, 0, 0), RETURN]), proto(1, 0, [], [RETURN]), proto(2, 0, [], [RETURN], [(0, 0)])])
+    case.clear()
+    case.cells(1, first=3)
+    for e, prototype, cells in ((0, 2, (3,)), (1, 1, ()), (2, 0, ()), (40, 1, ()), (63, 2, (3,))):
+        case.entry(e, prototype, *cells)
+        case.at((0, 0))
+        case.put(fn(e), i(4))
+        case.run(1, 70, 1, prototype, 0)
+        assert case.machine.frames[HELD + 1] == e + 1
+
+
+def unfit_closures():
+    case = None
+
+    def group(what):
+        """A case for each group: what follows starts it again."""
+        nonlocal case
+        case = Case('closures: ' + what, CAPTURED)
+
+    def nested():
+        """Registers 0 to 8 are live; the entries are 0 to 2; cell 0 is closed, cells 1 to 4 are open on registers 0, 1, 4 and 6."""
+        case.start(0)
+        case.run(9, 70, 9, 2, 0)
+
+    def causes(*changes):
+        """The changes make it unfit, and nothing else does: undone, it goes on."""
+        nested()
+        old = [case.set(*change) for change in changes]
+        case.stands(60, 0, 0, 0)
+        case.run(7, 60, 0, 0, 0)
+        for change in reversed(old):
+            case.set(*change)
+        case.run(7, 0, 7, 0, 6)
+
+    def fits(*changes, entry=3):
+        """It runs as it would without the changes, but for the entry that its Closure takes."""
+        nested()
+        for change in changes:
+            case.set(*change)
+        case.stands(70, 0, 2, 0)
+        case.run(3, 70, 3, 2, 3)
+        case.made(entry, 4)
+        case.run(4, 0, 4, 0, 6)
+
+    def in_entry(e, at=0):
+        return 'f', entry_at(e) + at
+
+    group('unfit: an entry names a prototype that is not there')
+    for word in (6, 7, 33, 256, 2**32, 2**32 + 4, MOST):
+        causes((*in_entry(0), word))
+        causes((*in_entry(63), word))
+    group('unfit: an entry has not as many cells as its prototype has descriptors')
+    for e, count in ((0, 1), (1, 2), (2, 3)):
+        for k in range(8):
+            causes((*in_entry(e, 1 + k), 0 if k < count else 1))
+    causes((*in_entry(2, 8), MOST))
+    # entries that nothing reaches, of a prototype without descriptors and of one with two
+    causes((*in_entry(5), 5), (*in_entry(5, 1), 1))
+    causes((*in_entry(5), 5), (*in_entry(5, 8), 1))
+    causes((*in_entry(63), 2))
+    causes((*in_entry(63), 2), (*in_entry(63, 2), 1))
+    # entry 0 is of a prototype that has more descriptors, and none
+    causes((*in_entry(0), 2))
+    causes((*in_entry(0), 5))
+    # by the table its prototype has one more, and none
+    causes(('t', 133 + 27, 2))
+    causes(('t', 133 + 27, 0))
+    group('unfit: an entry names a cell above 127')
+    for word in (129, 130, 256, 2**32, 2**32 + 1, MOST):
+        causes((*in_entry(0, 1), word))
+        causes((*in_entry(2, 3), word))
+    group('unfit: an entry names a free cell')
+    for word in (6, 7, 128):
+        causes((*in_entry(0, 1), word))
+    causes((*in_entry(5), 4), (*in_entry(5, 1), 100))
+    causes(('f', CELLS, 0))
+    causes(('f', CELLS + 2, 0))
+    group('unfit: a cell is open on a register that is not live')
+    for r in (9, 10, 2047, 2048, 2307, 2**16, 2**32, 2**32 + 1, MOST - 2):
+        causes(('f', CELLS + 1, 2 + r))
+        causes(('f', CELLS + 127, 2 + r))
+    causes(('f', 1, 1))
+    causes(('f', 0, 0), ('f', 1, 1))
+    group('unfit: two cells are open on one register')
+    causes(('f', CELLS + 2, 2))
+    causes(('f', CELLS + 1, 10), ('f', CELLS + 2, 10))
+    causes(('f', CELLS + 127, 8))
+    causes(('f', CELLS + 100, 10), ('f', CELLS + 101, 10))
+    for what, (kind, word) in (
+            ('kind 6', (6, 0)), ('kind 90', (90, 0)), ('kind 255', (255, 0)), ('boolean 2', (1, 2)), ('boolean 2^64 - 1', (1, MOST)), ('nil with word 1', (0, 1)),
+            ('string 0, an integer', s(0)), ('string 2 of 2', s(2)), ('string 2^64 - 1', s(MOST)), ('function 3, a free entry', fn(3)),
+            ('function 63, a free entry', fn(63)), ('function 64', fn(64)), ('function 90', fn(90)), ('function 2^32', fn(2**32)),
+            ('function 2^64 - 1', fn(MOST))):
+        group('unfit: a cell is closed over %s; one that is free or open does not matter' % what)
+        causes(('r', VALUES, kind), ('v', VALUES, word))
+        causes(('f', CELLS + 127, 1), ('r', VALUES + 127, kind), ('v', VALUES + 127, word))
+        fits(('r', VALUES + 127, kind), ('v', VALUES + 127, word))
+        fits(('r', VALUES + 1, kind), ('v', VALUES + 1, word))
+    group('fit: a cell is closed over a value')
+    for kind, word in (NIL, TRUE, i(SMALLEST), OTHER_NAN, s(1), fn(2)):
+        fits(('r', VALUES, kind), ('v', VALUES, word))
+        fits(('f', CELLS + 127, 1), ('r', VALUES + 127, kind), ('v', VALUES + 127, word))
+    group('unfit: a register holds function 0, whose entry is free')
+    causes((*in_entry(0), 0))
+    group('unfit: the outermost activation has a closure')
+    for word in (1, 2, 4, 64, 65, 2**32, MOST):
+        causes(('f', HELD, word))
+    for slot, who, others in ((HELD + 1, 'the second activation', (1, 3)), (HELD + 2, 'the innermost activation', (1, 2))):
+        group('unfit: %s has no closure, one that is free or not there, or one of another prototype' % who)
+        for word in (0, 4, 64, 65, 66, 256, 2**32, 2**32 + 2, MOST, *others):
+            causes(('f', slot, word))
+    group('unfit: an activation is of another prototype than its closure')
+    causes(('f', 4, 0), ('f', 5, 6))
+    group('unfit: the outermost is of a prototype with descriptors')
+    causes(('f', 2, 1), ('f', 3, 3))
+    causes(('t', 133, 1))
+    group('unfit: failed, with an entry of no prototype, or an activation without a closure')
+    causes(('f', 0, 30), (*in_entry(40), 6))
+    causes(('f', 0, 53), ('f', HELD + 2, 0))
+    group('fit: marks of a Closure')
+    for mark in (53, 54):
+        nested()
+        case.set('f', 0, mark)
+        case.stands(mark, 0, 2, 0)
+        case.run(9, mark, 0, 2, 0)
+    case = Case('closures: unfit: finished, with a cell closed over no value', [proto(1, 0, [], [RETURN])])
+    case.start(0)
+    case.run(1, 0, 1, 0, 0)
+    for change in (('f', CELLS + 50, 1), ('r', VALUES + 50, 7)):
+        case.set(*change)
+    case.run(1, 60, 0, 0, 0)
+    case.set('r', VALUES + 50, 0)
+    case.run(1, 0, 0, 0, 0)
+    case.set('f', HELD, 1)
+    case.stands(60, 0, 0, 0)
+
+    group('fit: entries that nothing reaches')
+    fits((*in_entry(10), 5))
+    fits((*in_entry(63), 2), (*in_entry(63, 1), 1), (*in_entry(63, 2), 5))
+    fits((*in_entry(63), 2), (*in_entry(63, 1), 3), (*in_entry(63, 2), 3))
+    group('fit: cells that no entry names')
+    fits(('f', CELLS + 127, 2 + 8))
+    case.closed(fn(3), first=127)
+    fits(*[('f', CELLS + 20 + r, 2 + r) for r in (2, 3, 5, 7, 8)])
+    fits(('f', CELLS + 64, 1), ('r', VALUES + 64, 1), ('v', VALUES + 64, 1))
+    group('fit: gaps, so a higher entry is taken')
+    fits((*in_entry(3), 5), entry=4)
+    fits(*[(*in_entry(e), 5) for e in range(3, 63)], entry=63)
+    group('53 at the last entry')
+    nested()
+    for e in range(3, 64):
+        case.set(*in_entry(e), 5)
+    case.run(7, 53, 3, 2, 2)
+    group('fit: what free entries hold, and the closures of activations that are not live')
+    fits(*[(*in_entry(e, k), MOST) for e in (4, 63) for k in (1, 8)])
+    fits(('f', HELD + 3, 1), ('f', HELD + 4, MOST), ('f', HELD + 15, MOST))
+    group('fit: a function register that is not the closure of the record, and one that holds none')
+    fits(('v', 2, 0))
+    fits(('r', 2, 0), ('v', 2, 0))
+    group('fit: functions of free entries in dead registers')
+    fits(('r', 9, 5), ('v', 9, 50), ('r', 2047, 5), ('v', 2047, MOST))
+    group('fit: closures over cells of several windows, cells that move, another closure of the prototype')
+    fits((*in_entry(1, 1), 5), (*in_entry(1, 2), 1))
+    fits(('f', CELLS + 1, 2 + 8))
+    fits((*in_entry(7), 3), *[(*in_entry(7, 1 + k), 1) for k in range(3)], ('f', HELD + 2, 8))
+
+
+def faults_of_closures():
+    """In an image that isn't accepted a run faults only at the instruction that breaks 16 itself."""
+    child = proto(1, 0, [], [RETURN], [(0, 0), (0, 1)])
+    for what, protos, at, steps in (
+            ('a Closure whose descriptor is out of range', [
+                proto(1, 0, [], [op('LoadNil', 0, 1), op('Closure', 0, 1), RETURN]), child], (0, 1), 1),
+            ('a Closure of an upvalue where there is none', [
+                proto(1, 0, [], [op('LoadNil', 0, 1), op('Closure', 0, 1), RETURN]), proto(1, 0, [], [RETURN], [(1, 0)])], (0, 1), 1),
+            ('GetUpValue at the count', [
+                proto(2, 0, [], [op('Closure', 0, 1), op('Call', 0, 0, 0), RETURN]),
+                proto(1, 0, [], [op('GetUpValue', 0, 2), RETURN], [(0, 0), (0, 1)])], (1, 0), 2),
+            ('SetUpValue at the count', [
+                proto(2, 0, [], [op('Closure', 0, 1), op('Call', 0, 0, 0), RETURN]),
+                proto(1, 0, [], [op('SetUpValue', 2, 0), RETURN], [(0, 0), (0, 1)])], (1, 0), 2)):
+        case = Case('closures: fault: %s' % what, protos)
+        case.start((16, *at))
+        case.clear()
+        case.at((0, 0))
+        case.run(9, 60, steps, *at)
+        case.run(9, 60, 0, *at)
+        case.run(0, 70, 0, *at)
+    case = Case('closures: no fault: an instruction that breaks 16 is not reached', [
+        proto(1, 0, [], [op('Jump', 1), op('Closure', 0, 1), op('Return', 0, 1)]), child])
+    case.start((16, 0, 1))
+    case.clear()
+    case.at((0, 0))
+    case.run(9, 0, 2, 0, 2)
+    case = Case('closures: fault: instruction 0 of prototype 0, which has descriptors', [
+        proto(1, 0, [], [op('LoadNil', 0, 1), op('Call', 0, 0, 0), RETURN], [(0, 0)]),
+        proto(1, 0, [], [op('Closure', 0, 0), op('Call', 0, 0, 0), RETURN])])
+    case.start((16, 0, 0))
+    case.clear()
+    case.at((1, 0))
+    case.run(9, 60, 2, 0, 0)
+    case.run(9, 60, 0, 0, 0)
+    # its other instructions are as good as any
+    case.set('f', 5, 1)
+    case.run(1, 50, 1, 0, 1)
+    case.at((0, 0))
+    case.run(0, 60, 0, 0, 0)
+    case = Case('closures: unfit: after a Call at instruction 0 of prototype 0, which has descriptors', [
+        proto(1, 0, [], [op('Call', 0, 0, 0), op('Call', 0, 0, 0), RETURN], [(0, 0)]), proto(1, 0, [], [op('Call', 0, 0, 0), RETURN])])
+    case.clear()
+    case.cells(1)
+    case.at((1, 1), (0, 2), (1, 0))
+    case.entry(0, 0, 0)
+    case.set('f', HELD + 1, 1)
+    case.run(0, 70, 0, 1, 0)
+    case.set('f', 5, 1)
+    case.run(0, 60, 0, 0, 0)
+    for number, what, entries, cells in ((53, 'no entry is free', 64, 0), (54, 'no cell is free', 0, 128)):
+        case = Case('closures: 60 before %d' % number, [
+            proto(1, 0, [], [op('Closure', 0, 1), op('Closure', 0, 2), RETURN]), child, proto(1, 0, [], [RETURN], [(0, 0)])])
+        case.clear()
+        for e in range(entries):
+            case.entry(e, 0)
+        case.cells(*[1] * cells)
+        case.at((0, 0))
+        case.run(1, 60, 0, 0, 0)
+        case.at((0, 1))
+        case.run(1, number, 1, 0, 1)
+
+
 def main():
     check = checking(__doc__)
-    for group in (starts, binaries, unaries, comparisons, tests, loads, loops, figures, named, controls, marks, failed, calls, budgets, faults, unfit):
+    for group in (starts, binaries, unaries, comparisons, tests, loads, loops, figures, named, controls, marks, failed, calls, budgets, faults, unfit,
+                  starts_with_closures, closures, captures, closing, equal_closures, unfit_closures, faults_of_closures):
         group()
     stdin = ''.join(LIST)
     if len(stdin) > MOST_BYTES:

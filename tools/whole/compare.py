@@ -18,8 +18,8 @@ HERE = os.path.dirname(os.path.realpath(__file__))
 sys.path[1:1] = [os.path.join(HERE, '..'), os.path.join(HERE, '..', 'vectors')]
 import texts
 from causes import RULES, shown_vector
-from generate import MANY, images
-from oracle.answers import DONE, RUNNING, TOO_DEEP, TOO_WIDE, UNFIT_OPERAND, ZERO_DIVISOR
+from generate import CARRIED, MANY, images
+from oracle.answers import DONE, NO_ENTRY, RUNNING, TOO_DEEP, TOO_WIDE, UNFIT_OPERAND, ZERO_DIVISOR
 from oracle.image import printed
 from oracle.kept import ROOT
 from oracle.machine import Machine
@@ -30,7 +30,7 @@ BUILDS = ('checked', 'released')
 BUDGET, LONG = 1000000, 3000
 LUA, SMALL, SHORT, FIGURES = 'real Lua', 'small', 'short', 'figures'
 RANDOM = 'rust whole '
-# The bytes that the kept images take of crates/runs/stdin, which the program there reads into 524,288; those of figures take their own.
+# The bytes that the kept images take of crates/runs/stdin, which the program there reads into 1,048,576; those of figures take their own.
 ROOM, ROOM_OF_FIGURES = 40000, 2000
 
 # Operations by the names that reference.py and causes.py have for them.
@@ -188,14 +188,15 @@ def listed(found):
 # ---- why they differ
 
 def limited(step):
-    return step.name == 'Call' and step.wanted.split()[0] in (str(TOO_DEEP), str(TOO_WIDE)) and step.got.startswith('s ')
+    numbers = {'Call': (str(TOO_DEEP), str(TOO_WIDE)), 'Closure': (str(NO_ENTRY),)}.get(step.name, ())
+    return step.wanted.split()[0] in numbers and step.got.startswith('s ')
 
 
 def reports_add(step):
     return step.name == 'Sub' and step.wanted == '31 %d %d' % step.place and step.got == '30 %d %d' % step.place
 
 
-LIMITS = "document 01's limits of activations and registers (51, 52): nothing in the files that are here has them"
+LIMITS = "the documents' limits of activations, registers and closures (51, 52, 53): nothing in the files that are here has them"
 REPORTS = 'the operation Sub reports Add'
 CAUSES = [LIMITS, REPORTS] + [text for _, text in RULES] + texts.CAUSES
 
@@ -261,7 +262,8 @@ def lua_images():
     """The programs of real Lua of crates/runs; behind them there stand images of ours."""
     with open(os.path.join(ROOT, 'crates', 'runs', 'stdin')) as file:
         parts = [part.partition('\n') for part in file.read().split('# ')[1:]]
-    return [Image(name, LUA, text) for name, _, text in parts if not name.startswith(RANDOM)]
+    # of upvalues nothing of the Rust is here: programs that have none
+    return [Image(name, LUA, text) for name, _, text in parts if not name.startswith(RANDOM) and '\nd1' not in text]
 
 
 def random_images():
@@ -322,10 +324,10 @@ def counted(found, long, apart):
 def example(parted):
     """The step of these that is shortest to show."""
     def text(image, step):
-        operands = 'Call' if step.name == 'Call' else shown_vector(NAMES[step.name], step.operands)
+        operands = step.name if step.name in ('Call', 'Closure') else shown_vector(NAMES[step.name], step.operands)
         return '`%s` in `%s` at %d, %d' % (operands, image.name, *step.place)
 
-    texts = [text(image, step) for image, step in parted if step.name == 'Call' or all(kind != FUNCTION for kind, _ in step.operands)]
+    texts = [text(image, step) for image, step in parted if step.name in ('Call', 'Closure') or all(kind != FUNCTION for kind, _ in step.operands)]
     return min(texts, key=len)
 
 
@@ -342,10 +344,10 @@ def by_cause(apart):
 
 def by_operation(runs):
     did = sum((run.did for run in runs), Counter())
-    never = set(OPERATIONS.values()) - {name for name, _ in did}
+    never = set(CARRIED) - {name for name, _ in did}
     if never:
         sys.exit('never carried out in an image that agrees: ' + ', '.join(sorted(never)))
-    rows = [[name] + [did[name, end] or '' for end in ('on', 'elsewhere', 'raised')] for name in OPERATIONS.values()]
+    rows = [[name] + [did[name, end] or '' for end in ('on', 'elsewhere', 'raised')] for name in CARRIED]
     return table(['operation', 'went on', 'skipped or jumped', 'raised its error'], rows)
 
 

@@ -16,6 +16,9 @@ from oracle.answers import DONE
 from oracle.dice import Dice
 from oracle.image import Prototype, payload
 from oracle.rules import BINARY, COMPARISONS, OPERANDS, OPERATIONS, check, ends, instruction, next_places
+
+# The operations that the Rust can be asked for: of upvalues nothing is here.
+CARRIED = [name for name in OPERATIONS.values() if name not in ('GetUpValue', 'SetUpValue')]
 from oracle.values import BOOLEAN, INTEGER, NIL, NUMBER, STRING
 
 VALUES = os.path.join(os.path.dirname(os.path.realpath(__file__)), '..', 'vectors', 'values.txt')
@@ -365,7 +368,7 @@ def operands(dice, name, p, n, registers, constants, protos):
 def any_instruction(dice, p, n, registers, constants, protos):
     """One that the checker lets pass, at instruction p of n. The last one is a Return."""
     while True:
-        name = 'Return' if p == n - 1 else dice.pick([name for name in OPERATIONS.values() if name != 'Return'] + ['LoadConstant', 'Closure'])
+        name = 'Return' if p == n - 1 else dice.pick([name for name in CARRIED if name != 'Return'] + ['LoadConstant', 'Closure'])
         a, b, c, flags = operands(dice, name, p, n, registers, constants, protos)
         inside = all(end <= registers for end in ends(name, a, b, c))
         if inside and all(0 <= place < n for place in next_places(name, p, b, c)):

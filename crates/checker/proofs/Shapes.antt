@@ -1,4 +1,4 @@
--- From six tests to the rules at a shape, and from an operation to its shape. Assumes nothing.
+-- From seven tests to the rules at a shape, and from an operation to its shape. Assumes nothing.
 use Prim.Native.Nat.{ℕ, _+_, _≤_, _<_}
 use mathlib.Core.Path.{_≡_, refl, sym, ap, _∙_}
 use mathlib.Core.Bool.{Bool, true, false, false≢true, cond}
@@ -10,7 +10,7 @@ use lib.Dec.{eqb, leb}
 use Rattle.choices.proofs.Choices.{by-bool, cond-cases}
 use Rattle.image.specs.Instruction.{operationOf, flagsOf, aOf, bOf, cOf}
 use Rattle.checker.specs.Operations.{Shape, copies, combines, unknown, shapeOf, Numbered, shapeAt}
-use Rattle.checker.specs.Rules.{carried, tidy, registersIn, constantsIn, targetsIn, prototypeInImage, lowest, brokenAs, brokenOf}
+use Rattle.checker.specs.Rules.{carried, tidy, registersIn, constantsIn, targetsIn, prototypeInImage, upvaluesIn, lowest, brokenAs, brokenOf}
 use Rattle.checker.specs.Decode.{operandsOf, decodeOf}
 use Rattle.checker.specs.Steps.{BytesOf, judged, decodeAs}
 use Rattle.checker.specs.declared.Site.{Site}
@@ -25,26 +25,28 @@ bytes w x h = rw (← h .flags, ← h .a, ← h .b, ← h .c)
 
 -- the instruction matters only where its places lie inside
 same-inside :
-    (k10 k11 k12 k13 k14 k15 : Bool) (i j : Instruction) → (k14 ≡ true → i ≡ j)
-    → judged (lowest k10 k11 k12 k13 k14 k15) i ≡ judged (lowest k10 k11 k12 k13 k14 k15) j
+    (k10 k11 k12 k13 k14 k15 k16 : Bool) (i j : Instruction) → (k14 ≡ true → i ≡ j)
+    → judged (lowest k10 k11 k12 k13 k14 k15 k16) i ≡ judged (lowest k10 k11 k12 k13 k14 k15 k16) j
 unfolding judged lowest
-same-inside false k11 k12 k13 k14 k15 i j f = refl
-same-inside true false k12 k13 k14 k15 i j f = refl
-same-inside true true false k13 k14 k15 i j f = refl
-same-inside true true true false k14 k15 i j f = refl
-same-inside true true true true false k15 i j f = refl
-same-inside true true true true true false i j f = refl
-same-inside true true true true true true i j f = f refl
+same-inside false k11 k12 k13 k14 k15 k16 i j f = refl
+same-inside true false k12 k13 k14 k15 k16 i j f = refl
+same-inside true true false k13 k14 k15 k16 i j f = refl
+same-inside true true true false k14 k15 k16 i j f = refl
+same-inside true true true true false k15 k16 i j f = refl
+same-inside true true true true true false k16 i j f = refl
+same-inside true true true true true true false i j f = refl
+same-inside true true true true true true true i j f = f refl
 
--- six tests that are the rules at shape x decide as `decodeOf` does there
+-- seven tests that are the rules at shape x decide as `decodeOf` does there
 module _ (x : Shape) (s : Site) where
   pub shaped :
-      {r i j : Instruction} {k10 k11 k12 k13 k14 k15 : Bool} → r ≡ judged (lowest k10 k11 k12 k13 k14 k15) i → k10 ≡ carried x s
+      {r i j : Instruction} {k10 k11 k12 k13 k14 k15 k16 : Bool} → r ≡ judged (lowest k10 k11 k12 k13 k14 k15 k16) i → k10 ≡ carried x s
       → k11 ≡ tidy x s → k12 ≡ registersIn x s → k13 ≡ constantsIn x s → k14 ≡ targetsIn x s → k15 ≡ prototypeInImage x s
-      → (targetsIn x s ≡ true → i ≡ j) → r ≡ decodeAs x s j
+      → k16 ≡ upvaluesIn x s → (targetsIn x s ≡ true → i ≡ j) → r ≡ decodeAs x s j
   unfolding brokenAs
-  shaped {k10 = k10} {k11 = k11} {k12 = k12} {k13 = k13} {k14 = k14} {k15 = k15} e e10 e11 e12 e13 e14 e15 f =
-      rw (← e10, ← e11, ← e12, ← e13, ← e14, ← e15) (e ∙ same-inside k10 k11 k12 k13 k14 k15 _ _ (λ h. f (sym e14 ∙ h)))
+  shaped {k10 = k10} {k11 = k11} {k12 = k12} {k13 = k13} {k14 = k14} {k15 = k15} {k16 = k16} e e10 e11 e12 e13 e14 e15 e16 f =
+      rw (← e10, ← e11, ← e12, ← e13, ← e14, ← e15, ← e16)
+      (e ∙ same-inside k10 k11 k12 k13 k14 k15 k16 _ _ (λ h. f (sym e14 ∙ h)))
 
 -- ---- an operation's arm: its number gives the shape, and the shape's decoder gives the answer
 
@@ -88,8 +90,10 @@ module _ (o : ℕ) where
       (λ t17. cond-cases Its (eqb o 17) _ _ (λ t. eqb-true _ _ t)
       (λ t18. cond-cases Its (eqb o 18) _ _ (λ t. eqb-true _ _ t)
       (λ t19. cond-cases Its (eqb o 19) _ _ (λ t. eqb-true _ _ t)
+      (λ t24. cond-cases Its (eqb o 24) _ _ (λ t. eqb-true _ _ t)
+      (λ t25. cond-cases Its (eqb o 25) _ _ (λ t. eqb-true _ _ t)
       (λ t27. cond-cases Its (leb 27 o) _ _
-      (λ l. cond-cases Its (leb o 29) _ _ (λ t. (leb-true _ _ l, leb-true _ _ t)) (λ t. late (leb-true _ _ l) t)) (λ l. tt)))))))))))))
+      (λ l. cond-cases Its (leb o 29) _ _ (λ t. (leb-true _ _ l, leb-true _ _ t)) (λ t. late (leb-true _ _ l) t)) (λ l. tt)))))))))))))))
 
 -- ---- an operation that is not carried
 
@@ -113,7 +117,7 @@ none-of o (j ∷ ks) A r =
 abbrev operations : List ℕ
 operations =
     0 ∷ 1 ∷ 2 ∷ 3 ∷ 10 ∷ 12 ∷ 14 ∷ 15 ∷ 16 ∷ 17 ∷ 18 ∷ 19 ∷ 27 ∷ 28 ∷ 29 ∷ 30 ∷ 31 ∷ 32 ∷ 33 ∷ 34 ∷ 35 ∷ 36 ∷ 37 ∷ 38 ∷ 40 ∷ 41 ∷ 42
-    ∷ 43 ∷ 44 ∷ []
+    ∷ 43 ∷ 44 ∷ 24 ∷ 25 ∷ []
 
 module _ (o : ℕ) (none : (k : ℕ) → member k operations ≡ true → o ≡ k → ⊥) where
   over : (a : ℕ) → a ≤ o → member a operations ≡ true → a + 1 ≤ o
@@ -143,6 +147,8 @@ module _ (o : ℕ) (none : (k : ℕ) → member k operations ≡ true → o ≡ 
         ne-eqb o 17 (none 17 refl),
         ne-eqb o 18 (none 18 refl),
         ne-eqb o 19 (none 19 refl),
+        ne-eqb o 24 (none 24 refl),
+        ne-eqb o 25 (none 25 refl),
       )
       (by-bool (leb 27 o)
       (λ t. let h : 39 ≤ o = low (leb-true 27 o t) in

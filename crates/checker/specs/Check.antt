@@ -4,17 +4,18 @@
 use Prim.Native.Nat.{ℕ, zero, suc, _+_}
 use mathlib.Core.List.{List}
 use lib.Dec.{eqb}
-use mathlib.Core.Bool.{cond}
+use mathlib.Core.Bool.{Bool, cond}
 use Rattle.storage.specs.Layout.{Storage, longEnough}
-use Rattle.storage.specs.Fields.{prototypesOf, registersOf, constantsOf, instructionsOf, instructionAt}
+use Rattle.storage.specs.Fields.{prototypesOf, registersOf, constantsOf, instructionsOf, descriptorsOf, instructionAt}
 use Rattle.storage.specs.Stored.{readsBack}
 use Rattle.checker.specs.Rules.{brokenOf}
+use Rattle.checker.specs.Captures.{capturesAt, bareAt}
 use Rattle.checker.specs.declared.Limits.{Limits}
 use Rattle.checker.specs.declared.Site.{Site}
 use Rattle.checker.specs.declared.Checked.{Checked}
 use Rattle.checker.specs.declared.Checked.the-variants.{Accepted, Refused}
 
--- "R registers, K constants", n instructions, and the image's prototypes
+-- "R registers, K constants", n instructions, the image's prototypes, and the descriptors
 abbrev pub limitsOf : List ℕ → ℕ → Limits
 limitsOf table q =
     record {
@@ -22,14 +23,19 @@ limitsOf table q =
       constants = constantsOf table q;
       instructions = instructionsOf table q;
       prototypes = prototypesOf table;
+      upvalues = descriptorsOf table q;
     }
 
-abbrev pub site : Limits → ℕ → ℕ → Site
-site l p w = record { limits = l; place = p; word = w }
+abbrev pub site : Limits → ℕ → ℕ → Bool → Bool → Site
+site l p w captures bare = record { limits = l; place = p; word = w; captures = captures; bare = bare }
+
+-- word w as instruction p of prototype q
+abbrev pub siteAt : List ℕ → ℕ → ℕ → ℕ → Site
+siteAt table q p w = site (limitsOf table q) p w (capturesAt table q w) (bareAt table q p)
 
 -- instruction p of prototype q
 abbrev pub siteOf : List ℕ → List ℕ → ℕ → ℕ → Site
-siteOf table code q p = site (limitsOf table q) p (instructionAt table code q p)
+siteOf table code q p = siteAt table q p (instructionAt table code q p)
 
 -- the rule that instruction i of prototype q breaks
 unfoldable pub brokenAt : List ℕ → List ℕ → ℕ → ℕ → ℕ

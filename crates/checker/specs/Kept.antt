@@ -11,7 +11,7 @@ use Rattle.checker.specs.Rules as rules
 use Rattle.checker.specs.Check.{siteOf, brokenAt}
 use Rattle.checker.specs.declared.Site.{Site}
 
--- the six rules, 10 to 15, at one instruction
+-- the seven rules, 10 to 16, at one instruction
 pub record Kept (s : Site) : Type 0 where
   pub carried : rules.carried (shapeAt (s .word)) s ≡ true
   pub tidy : rules.tidy (shapeAt (s .word)) s ≡ true
@@ -19,6 +19,7 @@ pub record Kept (s : Site) : Type 0 where
   pub constants : rules.constantsIn (shapeAt (s .word)) s ≡ true
   pub targets : rules.targetsIn (shapeAt (s .word)) s ≡ true
   pub prototype : rules.prototypeInImage (shapeAt (s .word)) s ≡ true
+  pub upvalues : rules.upvaluesIn (shapeAt (s .word)) s ≡ true
 
 abbrev pub KeptAt : List ℕ → List ℕ → ℕ → ℕ → Type 0
 KeptAt table code q i = Kept (siteOf table code q i)

@@ -1,4 +1,5 @@
--- The 29 operations that are carried over, by the way they use their bytes: document 01, "What is carried over" and "Operands". Assumes nothing.
+-- The 31 operations that are carried over, by the way they use their bytes: document 01, "What is carried over" and "Operands", and document 02, 6/12.
+-- Assumes nothing.
 use Prim.Native.Nat.{ℕ, _+_, _*_, _≤_}
 use mathlib.Core.Path.{_≡_}
 use mathlib.Core.Logic.{_⊎_}
@@ -37,11 +38,16 @@ pub data Shape : Type 0 where
   compares : Shape
   -- "the other binary operations a dest, all b left, c right"
   combines : Shape
+  -- document 02, 6/12: "GetUpValue (a dest, b upvalue)"
+  getsUpValue : Shape
+  -- "SetUpValue (a upvalue, b source)"
+  setsUpValue : Shape
   -- an operation that is not carried
   unknown : Shape
 
 -- "Move 0, LoadConstant, LoadBool, LoadNil 3, Call 10, Return 12, Jump 14, Test, TestSet, Closure, NumericForPrep, NumericForLoop 19, Eq 27, Less, LessEq,
--- Not, Minus, BitNot, Add, Sub, Mul, Div, IDiv, Mod 38, BitAnd 40, BitOr, BitXor, ShiftLeft, ShiftRight 44"
+-- Not, Minus, BitNot, Add, Sub, Mul, Div, IDiv, Mod 38, BitAnd 40, BitOr, BitXor, ShiftLeft, ShiftRight 44"; GetUpValue 24 and SetUpValue 25 by the order of
+-- the match arms too
 unfoldable pub shapeOf : ℕ → Shape
 shapeOf o =
     cond (eqb o 0) copies
@@ -56,9 +62,11 @@ shapeOf o =
     (cond (eqb o 17) closes
     (cond (eqb o 18) prepares
     (cond (eqb o 19) loops
+    (cond (eqb o 24) getsUpValue
+    (cond (eqb o 25) setsUpValue
     (cond (leb 27 o)
     (cond (leb o 29) compares (cond (leb o 32) copies (cond (leb o 38) combines (cond (leb 40 o) (cond (leb o 44) combines unknown) unknown))))
-    unknown))))))))))))
+    unknown))))))))))))))
 
 -- the same the other way round: the operations that have a shape, and no others (proofs/Shapes, `numbered`)
 abbrev pub Numbered : Shape → ℕ → Type 0
@@ -76,6 +84,8 @@ Numbered prepares o = o ≡ 18
 Numbered loops o = o ≡ 19
 Numbered compares o = (27 ≤ o) × (o ≤ 29)
 Numbered combines o = ((33 ≤ o) × (o ≤ 38)) ⊎ ((40 ≤ o) × (o ≤ 44))
+Numbered getsUpValue o = o ≡ 24
+Numbered setsUpValue o = o ≡ 25
 Numbered unknown o = Unit {0}
 
 abbrev pub shapeAt : ℕ → Shape
@@ -113,4 +123,6 @@ nextOf prepares p w = targetOf p w ∷ []
 nextOf loops p w = pos (p + 1) ∷ targetOf p w ∷ []
 nextOf compares p w = pos (p + 1) ∷ pos (p + 2) ∷ []
 nextOf combines p w = pos (p + 1) ∷ []
+nextOf getsUpValue p w = pos (p + 1) ∷ []
+nextOf setsUpValue p w = pos (p + 1) ∷ []
 nextOf unknown p w = []

@@ -1,4 +1,4 @@
-// The checker: the rules 10 to 15 for one instruction, which `decode` tests as it works the operands out, and the
+// The checker: the rules 10 to 16 for one instruction, which `decode` tests as it works the operands out, and the
 // search over all instructions of all prototypes. The machine decodes by the same function, so what the checker
 // accepts is what the machine can carry out.
 mod next;
@@ -8,27 +8,35 @@ mod rules;
 use storage::Validity;
 ghost use mathlib.Core.Path.{_≡_};
 ghost use Prim.Native.Nat.{_+_, _-_, _≤_, _<_};
+ghost use Rattle.choices.specs.Below.{allBelow};
 ghost use lib.ListN.{length};
 ghost use Rattle.storage.specs.Layout.{storageIn};
-ghost use Rattle.storage.specs.Fields.{firstInstruction, instructionsOf};
+ghost use Rattle.storage.specs.Fields.{firstInstruction, instructionsOf, descriptorOf};
 ghost use Rattle.checker.specs.Rules.{brokenOf};
 ghost use Rattle.checker.specs.Decode.{decodeOf, classOf};
+ghost use Rattle.checker.specs.Captures.{descriptorIn, capturesIn, capturesAt, bareAt};
 ghost use Rattle.checker.specs.Check.{limitsOf, siteOf, codeFrom, searchOf, checkOf};
 
-// What an instruction may name: registers R, constants K and instructions n of its prototype, the image's prototypes.
+// What an instruction may name: registers R, constants K and instructions n of its prototype, the image's prototypes, and
+// the upvalues of its prototype, as many as that has descriptors.
 pub struct Limits {
     pub registers: usize,
     pub constants: usize,
     pub instructions: usize,
     pub prototypes: usize,
+    pub upvalues: usize,
 }
 
 // An instruction where it stands: the limits of its prototype, its place there, and its word. A rule that looks at more, as
-// another instruction or a descriptor, adds a field here, which `site_of` fills, and no parameter to sixteen functions.
+// another instruction or a descriptor, adds a field here, which `site_of` fills, and no parameter to eighteen functions.
 pub struct Site {
     pub limits: Limits,
     pub place: usize,
     pub word: u64,
+    // Whether the descriptors of the prototype that a Closure names here are in range.
+    pub captures: bool,
+    // Not where this is the first instruction of all and its prototype has descriptors.
+    pub bare: bool,
 }
 
 pub enum Operand {
@@ -81,6 +89,10 @@ pub enum Instruction {
     Binary(Binary, usize, Operand, Operand),
     // The lowest rule that it breaks.
     Bad(u8),
+    GetUpValue(usize, usize),
+    SetUpValue(usize, usize),
+    // A Jump with a close register: this one and all above it, then the target.
+    Close(usize, usize),
 }
 
 // What an instruction is to the activations around it: only a Call lets a caller wait, only a Return ends a machine.
@@ -132,6 +144,8 @@ pub fn decode(s: Site) -> Instruction
         42 => rules::decode_combines(Binary::BitXor, s),
         43 => rules::decode_combines(Binary::ShiftLeft, s),
         44 => rules::decode_combines(Binary::ShiftRight, s),
+        24 => rules::decode_get_up_value(s),
+        25 => rules::decode_set_up_value(s),
         _ => Instruction::Bad(10),
     }
 }
@@ -155,6 +169,9 @@ pub fn class_of(i: Instruction) -> Class
         Instruction::Compare(_, _, _, _) => Class::Other,
         Instruction::Binary(_, _, _, _) => Class::Other,
         Instruction::Bad(_) => Class::Other,
+        Instruction::GetUpValue(_, _) => Class::Other,
+        Instruction::SetUpValue(_, _) => Class::Other,
+        Instruction::Close(_, _) => Class::Other,
     }
 }
 
@@ -180,7 +197,66 @@ fn limits_of(table: &[u64], q: usize) -> Limits
         constants: storage::constants(table, q),
         instructions: storage::instructions(table, q),
         prototypes: storage::prototypes(table),
+        upvalues: storage::descriptors(table, q),
     }
+}
+
+// Whether a descriptor is in range of prototype q: a register of it, or one of its upvalues.
+fn descriptor_in(table: &[u64], q: usize, d: usize) -> bool
+    ensures { λ r. ⌜ r ≡ descriptorIn (now (table .entry)) q d ⌝ }
+{
+    if d < 256 {
+        return d < storage::registers(table, q);
+    }
+    d - 256 < storage::descriptors(table, q)
+}
+
+// The first n descriptors of the prototype that prototype q names.
+fn all_in(table: &[u64], q: usize, named: usize, n: usize) -> bool
+    ensures { λ r. ⌜ r ≡ allBelow (λ i. descriptorIn (now (table .entry)) q (descriptorOf (now (table .entry)) named i)) n ⌝ }
+{
+    let mut i: usize = 0;
+    while i < n {
+        if !descriptor_in(table, q, storage::descriptor(table, named, i)) {
+            return false;
+        }
+        i += 1;
+    }
+    true
+}
+
+// No more than 8 are looked at, whatever the table says: a machine asks at every Closure.
+fn captures_in(table: &[u64], q: usize, named: usize) -> bool
+    ensures { λ r. ⌜ r ≡ capturesIn (now (table .entry)) q named ⌝ }
+{
+    let n = storage::descriptors(table, named);
+    if 8 < n {
+        return false;
+    }
+    all_in(table, q, named, n)
+}
+
+// What only a Closure has looked at: every other instruction costs one test.
+fn captures_at(table: &[u64], q: usize, w: u64) -> bool
+    ensures { λ r. ⌜ r ≡ capturesAt (now (table .entry)) q w ⌝ }
+{
+    if image::operation_of(w) != 17 {
+        return true;
+    }
+    captures_in(table, q, image::b_of(w) as usize)
+}
+
+// Prototype 0 has no descriptors, which is asked at its instruction 0 alone.
+fn bare_at(table: &[u64], q: usize, p: usize) -> bool
+    ensures { λ r. ⌜ r ≡ bareAt (now (table .entry)) q p ⌝ }
+{
+    if q != 0 {
+        return true;
+    }
+    if p != 0 {
+        return true;
+    }
+    storage::descriptors(table, 0) == 0
 }
 
 // Instruction p of prototype q.
@@ -188,10 +264,13 @@ pub fn site_of(table: &[u64], code: &[u64], q: usize, p: usize) -> Site
     ensures { λ r. ⌜ r ≡ siteOf (now (table .entry)) (now (code .entry)) q p ⌝ }
 {
     let l = limits_of(table, q);
+    let w = storage::instruction(table, code, q, p);
     Site {
         limits: l,
         place: p,
-        word: storage::instruction(table, code, q, p),
+        word: w,
+        captures: captures_at(table, q, w),
+        bare: bare_at(table, q, p),
     }
 }
 

@@ -1,4 +1,4 @@
-// The rules for one instruction, a shape at a time: what `judge` is given are the rules 10 to 15, in this order, and the
+// The rules for one instruction, a shape at a time: what `judge` is given are the rules 10 to 16, in this order, and the
 // lowest that fails is the refusal. A rule's tests are joined by `&`: a decoder has no branch.
 use crate::Binary;
 use crate::Compare;
@@ -12,9 +12,9 @@ ghost use Prim.Native.Nat.{_+_};
 ghost use lib.Dec.{eqb};
 ghost use mathlib.Core.Bool.{cond};
 ghost use Rattle.image.specs.Instruction.{aOf, bOf, cOf};
-ghost use Rattle.checker.specs.Operations.{copies, loadsConstant, loadsBool, loadsNil, calls, returns, jumps, tests, testsAndSets, closes, prepares, loops, compares, combines, bcOf};
+ghost use Rattle.checker.specs.Operations.{copies, loadsConstant, loadsBool, loadsNil, calls, returns, jumps, tests, testsAndSets, closes, prepares, loops, compares, combines, getsUpValue, setsUpValue, bcOf};
 ghost use Rattle.checker.specs.Rules.{lowest};
-ghost use Rattle.checker.specs.Decode.{leftOperand, rightOperand, placeOf};
+ghost use Rattle.checker.specs.Decode.{leftOperand, rightOperand, placeOf, jumpOf};
 ghost use Rattle.checker.specs.Steps.{judged, decodeAs};
 
 // The lowest rule that is not kept, or the instruction.
@@ -25,9 +25,10 @@ fn judge(
     k13: bool,
     k14: bool,
     k15: bool,
+    k16: bool,
     i: Instruction,
 ) -> Instruction
-    ensures { λ r. ⌜ r ≡ judged (lowest k10 k11 k12 k13 k14 k15) i ⌝ }
+    ensures { λ r. ⌜ r ≡ judged (lowest k10 k11 k12 k13 k14 k15 k16) i ⌝ }
 {
     if !k10 {
         return Instruction::Bad(10);
@@ -47,6 +48,9 @@ fn judge(
     if !k15 {
         return Instruction::Bad(15);
     }
+    if !k16 {
+        return Instruction::Bad(16);
+    }
     i
 }
 
@@ -65,6 +69,7 @@ pub(crate) fn decode_copies(u: Unary, s: Site) -> Instruction
         true,
         next,
         true,
+        s.bare,
         Instruction::Unary(u, x.a, x.b),
     )
 }
@@ -83,6 +88,7 @@ pub(crate) fn decode_load_constant(s: Site) -> Instruction
         bc < l.constants,
         next,
         true,
+        s.bare,
         Instruction::LoadConstant(x.a, bc),
     )
 }
@@ -101,6 +107,7 @@ pub(crate) fn decode_load_bool(s: Site) -> Instruction
         true,
         next.inside,
         true,
+        s.bare,
         Instruction::LoadBool(x.a, x.b == 1, next.at),
     )
 }
@@ -119,6 +126,7 @@ pub(crate) fn decode_load_nil(s: Site) -> Instruction
         true,
         next,
         true,
+        s.bare,
         Instruction::LoadNil(x.a, x.b),
     )
 }
@@ -138,6 +146,7 @@ pub(crate) fn decode_call(s: Site) -> Instruction
         true,
         next,
         true,
+        s.bare,
         Instruction::Call(x.a, x.b, x.c),
     )
 }
@@ -155,23 +164,38 @@ pub(crate) fn decode_return(s: Site) -> Instruction
         true,
         true,
         true,
+        s.bare,
         Instruction::Return(x.a, x.b),
     )
 }
 
-pub(crate) fn decode_jump(s: Site) -> Instruction
-    ensures { λ r. ⌜ r ≡ decodeAs jumps s (Instruction.Jump (placeOf (s .place) (s .word))) ⌝ }
+// A close register of 255 is none.
+fn jump_or_close(close: usize, target: usize) -> Instruction
+    ensures { λ r. ⌜ r ≡ jumpOf close target ⌝ }
 {
+    if close == 255 {
+        return Instruction::Jump(target);
+    }
+    Instruction::Close(close, target)
+}
+
+pub(crate) fn decode_jump(s: Site) -> Instruction
+    ensures { λ r. ⌜ r ≡ decodeAs jumps s (jumpOf (aOf (s .word)) (placeOf (s .place) (s .word))) ⌝ }
+{
+    let l = s.limits;
     let x = operands::bytes_of(s.word);
     let to = next::target_of(s);
+    let registers = (x.a == 255) | (x.a < l.registers);
+    let i = jump_or_close(x.a, to.at);
     judge(
-        x.a == 255,
-        x.flags == 0,
         true,
+        x.flags == 0,
+        registers,
         true,
         to.inside,
         true,
-        Instruction::Jump(to.at),
+        s.bare,
+        i,
     )
 }
 
@@ -189,6 +213,7 @@ pub(crate) fn decode_test(s: Site) -> Instruction
         true,
         next,
         true,
+        s.bare,
         Instruction::Test(x.a, x.b == 1),
     )
 }
@@ -208,6 +233,7 @@ pub(crate) fn decode_test_set(s: Site) -> Instruction
         true,
         next,
         true,
+        s.bare,
         Instruction::TestSet(x.a, x.b, x.c == 1),
     )
 }
@@ -226,6 +252,7 @@ pub(crate) fn decode_closure(s: Site) -> Instruction
         true,
         next,
         x.b < l.prototypes,
+        s.captures & s.bare,
         Instruction::Closure(x.a, x.b),
     )
 }
@@ -243,6 +270,7 @@ pub(crate) fn decode_prep(s: Site) -> Instruction
         true,
         to.inside,
         true,
+        s.bare,
         Instruction::NumericForPrep(x.a, to.at),
     )
 }
@@ -261,6 +289,7 @@ pub(crate) fn decode_loop(s: Site) -> Instruction
         true,
         next.inside & to.inside,
         true,
+        s.bare,
         Instruction::NumericForLoop(x.a, to.at),
     )
 }
@@ -279,7 +308,7 @@ pub(crate) fn decode_compares(o: Compare, s: Site) -> Instruction
         operands::left_of(s.word),
         operands::right_of(s.word),
     );
-    judge(true, tidy, registers, constants, next, true, i)
+    judge(true, tidy, registers, constants, next, true, s.bare, i)
 }
 
 pub(crate) fn decode_combines(o: Binary, s: Site) -> Instruction
@@ -296,5 +325,54 @@ pub(crate) fn decode_combines(o: Binary, s: Site) -> Instruction
         operands::left_of(s.word),
         operands::right_of(s.word),
     );
-    judge(true, x.flags <= 3, registers, constants, next, true, i)
+    judge(
+        true,
+        x.flags <= 3,
+        registers,
+        constants,
+        next,
+        true,
+        s.bare,
+        i,
+    )
+}
+
+pub(crate) fn decode_get_up_value(s: Site) -> Instruction
+    ensures { λ r. ⌜ r ≡ decodeAs getsUpValue s (Instruction.GetUpValue (aOf (s .word)) (bOf (s .word))) ⌝ }
+{
+    let l = s.limits;
+    let x = operands::bytes_of(s.word);
+    let next = next::next_inside(s);
+    let tidy = (x.flags == 0) & (x.c == 0);
+    let upvalues = (x.b < l.upvalues) & s.bare;
+    judge(
+        true,
+        tidy,
+        x.a < l.registers,
+        true,
+        next,
+        true,
+        upvalues,
+        Instruction::GetUpValue(x.a, x.b),
+    )
+}
+
+pub(crate) fn decode_set_up_value(s: Site) -> Instruction
+    ensures { λ r. ⌜ r ≡ decodeAs setsUpValue s (Instruction.SetUpValue (aOf (s .word)) (bOf (s .word))) ⌝ }
+{
+    let l = s.limits;
+    let x = operands::bytes_of(s.word);
+    let next = next::next_inside(s);
+    let tidy = (x.flags == 0) & (x.c == 0);
+    let upvalues = (x.a < l.upvalues) & s.bare;
+    judge(
+        true,
+        tidy,
+        x.b < l.registers,
+        true,
+        next,
+        true,
+        upvalues,
+        Instruction::SetUpValue(x.a, x.b),
+    )
 }

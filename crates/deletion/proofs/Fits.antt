@@ -27,6 +27,7 @@ use Rattle.constant.specs.Values.{isValue}
 use Rattle.state.specs.Frames.{depthIn, prototypeIn, baseOf}
 use Rattle.state.specs.States.{State, blankState}
 use Rattle.state.proofs.Windows.{base-last}
+use Rattle.cells.specs.Cells.{entryIn}
 use Rattle.fitness.specs.Fit.{fitOf, thereIn, valueFits, registerFits}
 use Rattle.fitness.specs.Facts.{Valid}
 use Rattle.fitness.proofs.Facts.{fit-facts}
@@ -66,47 +67,48 @@ payload-small k =
     cond-cases (λ (n : ℕ). n ≤ 8) (eqb k 0) _ _ (λ _. omega arith)
     (λ _. cond-cases (λ (n : ℕ). n ≤ 8) (eqb k 1) _ _ (λ _. omega arith) (λ _. omega arith))
 
-value-length : (k w : ℕ) (text : List ℕ) → (k ≡ 4 → length text ≤ 64) → length (valueBytes k w text) ≤ 66
+value-length : (k w : ℕ) (text : List ℕ) (q : ℕ) → (k ≡ 4 → length text ≤ 64) → length (valueBytes k w text q) ≤ 66
 unfolding valueBytes frameBytes
-value-length k w text h =
+value-length k w text q h =
     cond-cases (λ (l : List ℕ). length l ≤ 66) (eqb k 4) _ _ (λ e. omega (arith, h (eqb-true k 4 e)))
-    (λ _. cond-cases (λ (l : List ℕ). length l ≤ 66) (eqb k 5) _ _ (λ _. omega (arith, word-length 1 w []))
+    (λ _. cond-cases (λ (l : List ℕ). length l ≤ 66) (eqb k 5) _ _ (λ _. omega (arith, word-length 1 q []))
     (λ _. omega (arith, word-length (payload k) w [], payload-small k)))
 
 text-length : (w : ℕ) (texts : List ℕ) → length (textAt w texts) ≤ w % 65536
 text-length w texts = rw length-take (min-le-left (w % 65536) (length (drop (w / 65536) texts)))
 
 module _ (S : Storage) where
-  string-of : (k w : ℕ) → valueFits (S .table) (S .kinds) k w ≡ true → k ≡ 4 → isString S w ≡ true
+  string-of : (f : List ℕ) (k w : ℕ) → valueFits (S .table) (S .kinds) f k w ≡ true → k ≡ 4 → isString S w ≡ true
   unfolding valueFits isString
-  string-of k w e f =
+  string-of f k w e four =
       let c = cond (eqb k 4) (ltb w (firstConstant (S .table) (prototypesOf (S .table))) && eqb (getD (S .kinds) w 0) 4) true in
-      let g : c ≡ true = and-right (isValue k w && cond (eqb k 5) (ltb w (prototypesOf (S .table))) true) c e in
-      rw (eq-eqb k 4 f) at g
+      let g : c ≡ true = and-right (isValue k w && cond (eqb k 5) (ltb 0 (entryIn f w)) true) c e in
+      rw (eq-eqb k 4 four) at g
 
   module _ (s : State) (reads : readsBack S ≡ true) where
     register-length :
-        (r : ℕ) → registerFits (S .table) (S .kinds) (s .kinds) (s .words) r ≡ true
-        → length (valueLine (S .words) (S .texts) (s .kinds) (s .words) r) ≤ 133
+        (r : ℕ) → registerFits (S .table) (S .kinds) (s .frames) (s .kinds) (s .words) r ≡ true
+        → length (valueLine (S .words) (S .texts) (s .frames) (s .kinds) (s .words) r) ≤ 133
     unfolding registerFits valueLine
     register-length r e =
         let k = getD (s .kinds) r 0 in
         let w = getD (s .words) r 0 in
         let x = getD (S .words) w 0 in
-        let short : k ≡ 4 → length (textAt x (S .texts)) ≤ 64 = (λ f. let h = string-short S w reads (string-of k w e f) in
+        let q = entryIn (s .frames) w - 1 in
+        let short : k ≡ 4 → length (textAt x (S .texts)) ≤ 64 = (λ f. let h = string-short S w reads (string-of (s .frames) k w e f) in
         omega (arith, text-length x (S .texts))) in
-        omega (arith, line-length (valueBytes k w (textAt x (S .texts))), value-length k w (textAt x (S .texts)) short)
+        omega (arith, line-length (valueBytes k w (textAt x (S .texts)) q), value-length k w (textAt x (S .texts)) q short)
 
 -- ---- values in a row
 
-module _ (C X K W : List ℕ) (m : ℕ) (short : (r : ℕ) → r < m → length (valueLine C X K W r) ≤ 133) where
-  lines-length : (n r : ℕ) → r + n ≤ m → length (valueLines C X K W n r) ≤ 133 * n
+module _ (C X F K W : List ℕ) (m : ℕ) (short : (r : ℕ) → r < m → length (valueLine C X F K W r) ≤ 133) where
+  lines-length : (n r : ℕ) → r + n ≤ m → length (valueLines C X F K W n r) ≤ 133 * n
   unfolding valueLines
   lines-length zero r h = omega arith
   lines-length (suc n) r h =
       omega (
         arith,
-        length-append (valueLine C X K W r) (valueLines C X K W n (r + 1)),
+        length-append (valueLine C X F K W r) (valueLines C X F K W n (r + 1)),
         short r (omega arith),
         lines-length n (r + 1) (omega arith),
       )
@@ -121,7 +123,7 @@ module _ (S : Storage) (s : State) where
   most = 133 * 255
 
   abbrev Short : ℕ → ℕ → Type 0
-  Short n r = length (valueLines (S .words) (S .texts) (s .kinds) (s .words) n r) ≤ most
+  Short n r = length (valueLines (S .words) (S .texts) F (s .kinds) (s .words) n r) ≤ most
 
   none-short : (r : ℕ) → Short 0 r
   unfolding valueLines
@@ -139,7 +141,7 @@ module _ (S : Storage) (s : State) where
       let at : r + n ≤ baseOf t F (depthIn F) = omega (arith, base-last t F (depthIn F) (fit .stack .steady .some)) in
       omega (
         arith,
-        lines-length (S .words) (S .texts) (s .kinds) (s .words) (baseOf t F (depthIn F))
+        lines-length (S .words) (S .texts) F (s .kinds) (s .words) (baseOf t F (depthIn F))
             (λ j l. register-length S s (fit .reads) j (fit .valid j l)) n r at,
       )
 

@@ -35,7 +35,7 @@ answer-put {out} {out'} {r} o h p = lined-put (omega (arith, answer-length o)) p
 
 module _ (S : Storage) (t : State) (o : Outcome) (v : Values) (e : v ≡ returnedOf S t) (n : ℕ) (f : n ≡ shownOf o v) where
   abbrev values : List ℕ
-  values = valueLines (S .words) (S .texts) (t .kinds) (t .words) n (v .first)
+  values = valueLines (S .words) (S .texts) (t .frames) (t .kinds) (t .words) n (v .first)
 
   module _ {out out' : List ℕ} {at : ℕ} (p : Put out 0 (answerLine o) at out') where
     pub values-room : outputSize ≤ length out → Room out' at values

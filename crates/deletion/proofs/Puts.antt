@@ -11,6 +11,7 @@ use Rattle.writer.specs.Writing.{lineOf, Lined}
 use Rattle.writer.specs.Putting.{Room, Put}
 use Rattle.writer.proofs.Puts.{Cut}
 use Rattle.constant.specs.Values.{textOf}
+use Rattle.cells.specs.Cells.{entryIn}
 use Rattle.step.specs.declared.Outcome.{Outcome}
 use Rattle.machine.specs.declared.Values.{Values}
 use Rattle.deletion.specs.Lines.{valueBytes}
@@ -50,25 +51,25 @@ part-put out at line part n room p =
 
 -- ---- values
 
-module _ (C X K W : List ℕ) where
-  -- the line of a register's kind and word, and of the text that the word names
+module _ (C X F K W : List ℕ) where
+  -- the line of a register's kind and word, and of the text or the prototype that the word names
   pub value-told :
-      (r kind word : ℕ) (text : List ℕ) → kind ≡ getD K r 0 → word ≡ getD W r 0 → text ≡ textOf C X word
-      → lineOf (valueBytes kind word text) ≡ valueLine C X K W r
+      (r kind word : ℕ) (text : List ℕ) (q x : ℕ) → kind ≡ getD K r 0 → word ≡ getD W r 0 → text ≡ textOf C X word → x ≡ entryIn F word → q ≡ x - 1
+      → lineOf (valueBytes kind word text q) ≡ valueLine C X F K W r
   unfolding valueLine
-  value-told r kind word text ek ew et = rw (et, ek, ew)
+  value-told r kind word text q x ek ew et ex eq = rw (et, eq, ex, ek, ew)
 
   -- what is left of n values from `first` on after i turns
   abbrev pub rest : ℕ → ℕ → ℕ → List ℕ
-  rest n first i = valueLines C X K W (n - i) (first + i)
+  rest n first i = valueLines C X F K W (n - i) (first + i)
 
-  pub values-start : (n first : ℕ) → rest n first 0 ≡ valueLines C X K W n first
+  pub values-start : (n first : ℕ) → rest n first 0 ≡ valueLines C X F K W n first
   values-start n first =
       let a : n - 0 ≡ n = omega arith in
       let b : first + 0 ≡ first = omega arith in
       rw (a, b)
 
-  pub values-turn : (n first i : ℕ) → i < n → Cut (rest n first i) (valueLine C X K W (first + i)) (rest n first (i + 1))
+  pub values-turn : (n first i : ℕ) → i < n → Cut (rest n first i) (valueLine C X F K W (first + i)) (rest n first (i + 1))
   unfolding valueLines
   values-turn n first i h =
       let a : n - i ≡ suc (n - (i + 1)) = omega arith in

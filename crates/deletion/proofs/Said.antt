@@ -44,24 +44,24 @@ word-said k w a b c d p q x y ea eb ec ed ep eq ex ey = rw (ea, eb, ec, ed, ep, 
 
 -- ---- a value, by its kind
 
-module _ (k w : ℕ) (text : List ℕ) where
-  pub string-said : k ≡ 4 → 0xb0 ∷ 4 ∷ text ≡ valueBytes k w text
+module _ (k w : ℕ) (text : List ℕ) (q : ℕ) where
+  pub string-said : k ≡ 4 → 0xb0 ∷ 4 ∷ text ≡ valueBytes k w text q
   unfolding valueBytes frameBytes
   string-said e = simp e
 
-  pub nil-said : k ≡ 0 → 0xb0 ∷ 0 ∷ [] ≡ valueBytes k w text
+  pub nil-said : k ≡ 0 → 0xb0 ∷ 0 ∷ [] ≡ valueBytes k w text q
   unfolding valueBytes frameBytes payload wordBytes
   nil-said e = simp e
 
-  pub boolean-said : k ≡ 1 → 0xb0 ∷ 1 ∷ wordBytes 1 w [] ≡ valueBytes k w text
+  pub boolean-said : k ≡ 1 → 0xb0 ∷ 1 ∷ wordBytes 1 w [] ≡ valueBytes k w text q
   unfolding valueBytes frameBytes payload
   boolean-said e = simp e
 
-  pub function-said : k ≡ 5 → 0xb0 ∷ 5 ∷ wordBytes 1 w [] ≡ valueBytes k w text
+  pub function-said : k ≡ 5 → 0xb0 ∷ 5 ∷ wordBytes 1 q [] ≡ valueBytes k w text q
   unfolding valueBytes
   function-said e = simp e
 
   pub other-said :
-      (k ≡ 4 → ⊥) → (k ≡ 5 → ⊥) → (k ≡ 0 → ⊥) → (k ≡ 1 → ⊥) → 0xb0 ∷ k ∷ wordBytes 8 w [] ≡ valueBytes k w text
+      (k ≡ 4 → ⊥) → (k ≡ 5 → ⊥) → (k ≡ 0 → ⊥) → (k ≡ 1 → ⊥) → 0xb0 ∷ k ∷ wordBytes 8 w [] ≡ valueBytes k w text q
   unfolding valueBytes frameBytes payload
   other-said h i f g = simp (ne-eqb _ _ h, ne-eqb _ _ i, ne-eqb _ _ f, ne-eqb _ _ g)

@@ -1,7 +1,7 @@
 -- All that the program writes, from the bytes that it reads and from what the run is given. Document 01: "The program reads an image from standard input, runs
 -- it without arguments on budget 1,000,000 and writes `f0`, answer (1 byte), count (4), prototype (1), instruction (2; for reading, prototype 0 and the line),
 -- then each returned value as a `b0` line, a function as tag 05 and its prototype." With a budget and arguments of its caller's it writes the same. Assumes nothing.
-use Prim.Native.Nat.{ℕ, zero, suc, _+_, _≤_}
+use Prim.Native.Nat.{ℕ, zero, suc, _+_, _-_, _≤_}
 use mathlib.Core.Path.{_≡_}
 use mathlib.Core.Bool.{cond}
 use mathlib.Core.List.{List, [], _++_}
@@ -17,6 +17,7 @@ use Rattle.constant.specs.Values.{textOf}
 use Rattle.checker.specs.declared.Checked.{Checked}
 use Rattle.checker.specs.declared.Checked.the-variants as checked
 use Rattle.state.specs.States.{State, blankState}
+use Rattle.cells.specs.Cells.{entryIn}
 use Rattle.starter.specs.Start.{startOf}
 use Rattle.step.specs.Run.{Ended, runOf}
 use Rattle.step.specs.declared.Outcome.{Outcome}
@@ -30,16 +31,17 @@ use Rattle.deletion.specs.Lines.{answerBytes, valueBytes}
 abbrev pub answerLine : Outcome → List ℕ
 answerLine o = lineOf (answerBytes o)
 
--- the value in register r
-unfoldable pub valueLine : List ℕ → List ℕ → List ℕ → List ℕ → ℕ → List ℕ
-valueLine constWords texts kinds words r =
-    lineOf (valueBytes (getD kinds r 0) (getD words r 0) (textOf constWords texts (getD words r 0)))
+-- the value in register r; a function's word is the number of its entry, which holds its prototype + 1
+unfoldable pub valueLine : List ℕ → List ℕ → List ℕ → List ℕ → List ℕ → ℕ → List ℕ
+valueLine constWords texts frames kinds words r =
+    let word = getD words r 0 in
+    lineOf (valueBytes (getD kinds r 0) word (textOf constWords texts word) (entryIn frames word - 1))
 
 -- the values in n registers from r on
-unfoldable pub valueLines : List ℕ → List ℕ → List ℕ → List ℕ → ℕ → ℕ → List ℕ
-valueLines constWords texts kinds words zero r = []
-valueLines constWords texts kinds words (suc n) r =
-    valueLine constWords texts kinds words r ++ valueLines constWords texts kinds words n (r + 1)
+unfoldable pub valueLines : List ℕ → List ℕ → List ℕ → List ℕ → List ℕ → ℕ → ℕ → List ℕ
+valueLines constWords texts frames kinds words zero r = []
+valueLines constWords texts frames kinds words (suc n) r =
+    valueLine constWords texts frames kinds words r ++ valueLines constWords texts frames kinds words n (r + 1)
 
 -- ---- what a run is given: a budget, and the kinds and words of its arguments
 
@@ -62,7 +64,7 @@ unfoldable pub shownOf : Outcome → Values → ℕ
 shownOf o v = cond (eqb (o .number) 0) (v .count) 0
 
 unfoldable pub returnedLines : Storage → State → Outcome → Values → List ℕ
-returnedLines S s o v = valueLines (S .words) (S .texts) (s .kinds) (s .words) (shownOf o v) (v .first)
+returnedLines S s o v = valueLines (S .words) (S .texts) (s .frames) (s .kinds) (s .words) (shownOf o v) (v .first)
 
 unfoldable pub endedOutput : Storage → Ended → List ℕ
 endedOutput S e = answerLine (e .answer) ++ returnedLines S (e .state) (e .answer) (returnedOf S (e .state))

@@ -76,16 +76,16 @@ fn word_line(kind: u8, w: u64, out: &mut [u8]) -> usize
     line(&bytes, out)
 }
 
-// The `b0` line of a value; `text` is what a string says.
-pub(crate) fn value_line(kind: u8, word: u64, text: &[u8], out: &mut [u8]) -> usize
-    ensures { λ r. ⌜ Lined (lineOf (valueBytes kind word (now (text .entry)))) r (now (out .entry)) (now (out .exit)) ⌝ }
+// The `b0` line of a value; `text` is what a string says, `prototype` what a function's entry does.
+pub(crate) fn value_line(kind: u8, word: u64, text: &[u8], prototype: u64, out: &mut [u8]) -> usize
+    ensures { λ r. ⌜ Lined (lineOf (valueBytes kind word (now (text .entry)) prototype)) r (now (out .entry)) (now (out .exit)) ⌝ }
 {
     if kind == 4 {
         let head = [0xb0, 4];
         return writer::write_line(&head, text, out);
     }
     if kind == 5 {
-        return byte_line(5, word, out);
+        return byte_line(5, prototype, out);
     }
     if kind == 0 {
         let bytes = [0xb0, 0];

@@ -26,6 +26,7 @@ pub(crate) const OUTPUT: usize = 33_936;
 fn put_value(
     const_words: &[u64],
     texts: &[u8],
+    frames: &[u64],
     kinds: &[u8],
     words: &[u64],
     first: usize,
@@ -33,13 +34,14 @@ fn put_value(
     out: &mut [u8],
     at: usize,
 ) -> usize
-    requires { ⌜ Room (now out) at (valueLine (now «const_words») (now texts) (now kinds) (now words) (first + i)) ⌝ }
-    ensures { λ r. ⌜ Put (now (out .entry)) at (valueLine (now («const_words» .entry)) (now (texts .entry)) (now (kinds .entry)) (now (words .entry)) (first + i)) r (now (out .exit)) ⌝ }
+    requires { ⌜ Room (now out) at (valueLine (now «const_words») (now texts) (now frames) (now kinds) (now words) (first + i)) ⌝ }
+    ensures { λ r. ⌜ Put (now (out .entry)) at (valueLine (now («const_words» .entry)) (now (texts .entry)) (now (frames .entry)) (now (kinds .entry)) (now (words .entry)) (first + i)) r (now (out .exit)) ⌝ }
 {
     let kind = slices::byte_at(kinds, first, i);
     let word = slices::word_at(words, first, i);
     let text = constant::text_of(const_words, texts, word);
-    let n = lines::value_line(kind, word, text, &mut out[at..]);
+    let q = state::previous(cells::entry(frames, word as usize) as usize);
+    let n = lines::value_line(kind, word, text, q as u64, &mut out[at..]);
     at + n
 }
 
@@ -47,6 +49,7 @@ fn put_value(
 fn put_values(
     const_words: &[u64],
     texts: &[u8],
+    frames: &[u64],
     kinds: &[u8],
     words: &[u64],
     first: usize,
@@ -54,13 +57,13 @@ fn put_values(
     out: &mut [u8],
     at: usize,
 ) -> usize
-    requires { ⌜ Room (now out) at (valueLines (now «const_words») (now texts) (now kinds) (now words) n first) ⌝ }
-    ensures { λ r. ⌜ Put (now (out .entry)) at (valueLines (now («const_words» .entry)) (now (texts .entry)) (now (kinds .entry)) (now (words .entry)) n first) r (now (out .exit)) ⌝ }
+    requires { ⌜ Room (now out) at (valueLines (now «const_words») (now texts) (now frames) (now kinds) (now words) n first) ⌝ }
+    ensures { λ r. ⌜ Put (now (out .entry)) at (valueLines (now («const_words» .entry)) (now (texts .entry)) (now (frames .entry)) (now (kinds .entry)) (now (words .entry)) n first) r (now (out .exit)) ⌝ }
 {
     let mut to = at;
     let mut i = 0;
     while i < n {
-        to = put_value(const_words, texts, kinds, words, first, i, out, to);
+        to = put_value(const_words, texts, frames, kinds, words, first, i, out, to);
         i += 1;
     }
     to
@@ -117,7 +120,8 @@ fn put_run(
         words,
     );
     let n = shown(o, r);
-    put_values(const_words, texts, kinds, words, r.first, n, out, at)
+    let first = r.first;
+    put_values(const_words, texts, frames, kinds, words, first, n, out, at)
 }
 
 // Starts the image that was read, with these arguments, and runs it.

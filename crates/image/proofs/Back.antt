@@ -8,7 +8,7 @@ use lib.Dec.{eqb}
 use borrow.Author.Tests.{le-leb, lt-ltb, eq-eqb}
 use Rattle.image.specs.Lines.{ended, onto, lines}
 use Rattle.image.specs.Instruction.{operationOf, flagsOf, aOf, bOf, cOf}
-use Rattle.image.specs.Frames.{F, opens, const, str, code, ends, bad, payload, mostOf, wordBytesOf, frameOf, kindBytes, openBytes, constBytes, codeBytes, endBytes, lineFrame, framesOf}
+use Rattle.image.specs.Frames.{F, opens, const, str, code, ends, bad, desc, payload, mostOf, wordBytesOf, frameOf, kindBytes, openBytes, constBytes, codeBytes, endBytes, descBytes, lineFrame, framesOf}
 use Rattle.image.specs.Write.{hexOf, wordBytes, frameBytes, written}
 use Rattle.choices.proofs.Choices.{by-bool}
 use Rattle.image.proofs.HexLaws.{AllBytes, bytes-nil, bytes-cons, hex-no-lf, hex-paired, hex-bytes, word-is, word-all, word-length}
@@ -38,7 +38,7 @@ word-said k w h =
     rw (word-length (payload k) w, e) (simp (eq-eqb (payload k) (payload k) refl, le-leb _ _ h))
 
 kind-said : (f : F) → Said f → kindBytes (frameBytes f) ≡ f
-unfolding kindBytes openBytes constBytes codeBytes endBytes frameBytes
+unfolding kindBytes openBytes constBytes codeBytes endBytes descBytes frameBytes
 kind-said (opens r p) h = simp (le-leb _ _ (h .0), le-leb _ _ (h .1 .1))
 kind-said (const k w) h =
     simp (le-leb 2 (suc (suc (length (wordBytes (payload k) w [])))) (omega arith), lt-ltb _ _ (h .0)) (word-said k w (h .1))
@@ -47,6 +47,7 @@ kind-said (str l) h =
 kind-said (code w) h = ap code (packed-fields w h)
 kind-said (ends n) h = refl
 kind-said (bad k) h = absurd h
+kind-said (desc k n) h = simp (le-leb _ _ (h .0))
 
 bytes-said : (f : F) → Said f → AllBytes (frameBytes f)
 unfolding frameBytes
@@ -65,6 +66,9 @@ bytes-said (code w) h =
     (bytes-cons (bOf w) (cOf w ∷ []) (omega arith) (bytes-cons (cOf w) [] (omega arith) bytes-nil)))))
 bytes-said (ends n) h = bytes-cons 0xe0 (n ∷ []) (omega arith) (bytes-cons n [] h bytes-nil)
 bytes-said (bad k) h = absurd h
+bytes-said (desc k n) h =
+    bytes-cons 0xd1 (k ∷ n ∷ []) (omega arith)
+    (bytes-cons k (n ∷ []) (omega (arith, h .0)) (bytes-cons n [] (h .1) bytes-nil))
 
 some-bytes : (f : F) → Said f → 1 ≤ length (hexOf (frameBytes f))
 unfolding frameBytes hexOf
@@ -74,6 +78,7 @@ some-bytes (str l) h = omega arith
 some-bytes (code w) h = omega arith
 some-bytes (ends n) h = omega arith
 some-bytes (bad k) h = absurd h
+some-bytes (desc k n) h = omega arith
 
 line-said : (f : F) → Said f → frameOf (hexOf (frameBytes f)) ≡ f
 unfolding frameOf

@@ -2,7 +2,7 @@
 use Prim.Native.Nat.{_^_, _≤_, _<_}
 use mathlib.Core.List.{List, [], _∷_}
 use lib.ListN.{length}
-use Rattle.image.specs.Frames.{F, opens, const, str, code, ends, bad, mostOf}
+use Rattle.image.specs.Frames.{F, opens, const, str, code, ends, bad, desc, mostOf}
 use Rattle.image.proofs.HexLaws.{AllBytes}
 
 abbrev pub Said : F → Type 0
@@ -12,6 +12,7 @@ Said (str l) = (length l ≤ 64) × AllBytes l
 Said (code w) = w < 2 ^ 40
 Said (ends n) = n < 256
 Said (bad k) = ⊥
+Said (desc k n) = (k ≤ 1) × (n < 256)
 
 pub data AllSaid : List F → Type 0 where
   none : AllSaid []

@@ -4,7 +4,7 @@ use native.Mathlib.Omega.{arith}
 use mathlib.Core.Path.{_≡_, refl, sym, ap, _∙_}
 use mathlib.Core.List.{List, [], _∷_, _++_, append-assoc}
 use lib.ListN.{length, length-append}
-use Rattle.image.specs.Frames.{F, opens, const, str, code, ends, bad, payload}
+use Rattle.image.specs.Frames.{F, opens, const, str, code, ends, bad, desc, payload}
 use Rattle.image.specs.Write.{hexOf, frameBytes, written}
 use Rattle.image.proofs.HexLaws.{hex-length, word-length}
 
@@ -16,6 +16,7 @@ lineSize (str l) = 5 + 2 * length l
 lineSize (code w) = 13
 lineSize (ends n) = 5
 lineSize (bad k) = 1
+lineSize (desc k n) = 7
 
 size-frame : (f : F) → 2 * length (frameBytes f) + 1 ≡ lineSize f
 unfolding frameBytes lineSize
@@ -25,6 +26,7 @@ size-frame (str l) = omega arith
 size-frame (code w) = refl
 size-frame (ends n) = refl
 size-frame (bad k) = refl
+size-frame (desc k n) = refl
 
 pub size-line : (f : F) (fs : List F) → length (written (f ∷ fs)) ≡ lineSize f + length (written fs)
 unfolding written

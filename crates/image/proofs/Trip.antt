@@ -12,7 +12,7 @@ use borrow.Author.Tests.{ltb-true, leb-true, eqb-true}
 use Rattle.image.specs.Hex.{paired, bytesOf, wordFrom}
 use Rattle.image.specs.Lines.{Line, ended, unended, onto, lines}
 use Rattle.image.specs.Instruction.{packed, Packs}
-use Rattle.image.specs.Frames.{F, opens, const, str, code, ends, bad, shape, payload, mostOf, wordBytesOf, frameOf, kindBytes, openBytes, constBytes, codeBytes, endBytes, lineFrame, framesOf}
+use Rattle.image.specs.Frames.{F, opens, const, str, code, ends, bad, desc, shape, payload, mostOf, wordBytesOf, frameOf, kindBytes, openBytes, constBytes, codeBytes, endBytes, descBytes, lineFrame, framesOf}
 use Rattle.image.specs.Judge.{frameStep, start, atEnd, judgeAfter, judgeFrames, judgeOf}
 use Rattle.image.specs.Write.{hexOf, frameBytes, written}
 use Rattle.image.specs.declared.Counts.{Counts}
@@ -35,6 +35,7 @@ good (str l) = true
 good (code w) = true
 good (ends n) = true
 good (bad k) = false
+good (desc k n) = true
 
 -- a line's bytes B: a frame read from them that is not refused has these bytes, and is one that a line can say
 module _ (B : List ℕ) (bytes : AllBytes B) where
@@ -123,6 +124,18 @@ module _ (B : List ℕ) (bytes : AllBytes B) where
       short : length B ≤ 66 → length (drop 2 B) ≤ 64
       short h = omega (arith, length-drop 2 B)
 
+  desc-back : 0xd1 ≡ getD B 0 0 → Back (descBytes B)
+  unfolding descBytes
+  desc-back k =
+      cond-cases Back (eqb (length B) 3) _ _
+      (λ h. cond-cases Back (leb (getD B 1 0) 1) _ _ (λ t e. (three (eqb-true _ _ h), (leb-true _ _ t, bytes 2))) (λ t. bad-back 2))
+      (λ h. bad-back 2)
+    where
+      three : length B ≡ 3 → frameBytes (desc (getD B 1 0) (getD B 2 0)) ≡ B
+      three h = unfold frameBytes in
+          front 0 _ _ (omega arith) k
+          (front 1 _ _ (omega arith) refl (front 2 _ _ (omega arith) refl (last 3 (omega arith))))
+
   kind-back : Back (kindBytes B)
   unfolding kindBytes
   kind-back =
@@ -130,7 +143,8 @@ module _ (B : List ℕ) (bytes : AllBytes B) where
       cond-cases Back (eqb k 0xa0) _ _ (λ a. open-back (sym (eqb-true _ _ a)))
       (λ a. cond-cases Back (eqb k 0xb0) _ _ (λ b. const-back (sym (eqb-true _ _ b)))
       (λ b. cond-cases Back (eqb k 0xc0) _ _ (λ c. code-back (sym (eqb-true _ _ c)))
-      (λ c. cond-cases Back (eqb k 0xe0) _ _ (λ d. end-back (sym (eqb-true _ _ d))) (λ d. bad-back 2))))
+      (λ c. cond-cases Back (eqb k 0xe0) _ _ (λ d. end-back (sym (eqb-true _ _ d)))
+      (λ d. cond-cases Back (eqb k 0xd1) _ _ (λ e. desc-back (sym (eqb-true _ _ e))) (λ e. bad-back 2)))))
 
 -- a line of which a frame was read is that frame's text
 line-back : (l : List ℕ) → good (frameOf l) ≡ true → (hexOf (frameBytes (frameOf l)) ≡ l) × Said (frameOf l)
@@ -193,6 +207,7 @@ good-step (str l) st e = refl
 good-step (code w) st e = refl
 good-step (ends m) st e = refl
 good-step (bad k) st e = absurd (e k refl)
+good-step (desc k n) st e = refl
 
 good-end : (fs : List F) (p n q : ℕ) → atEnd p n fs ≡ Accepted q → AllGood fs
 unfolding atEnd

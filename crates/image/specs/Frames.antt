@@ -8,10 +8,10 @@ use mathlib.Core.Bool.{cond}
 use Rattle.image.specs.Lines.{Line, ended, unended, lines, lineLen}
 use Rattle.image.specs.Instruction.{packed}
 use Rattle.image.specs.declared.Frame.{Frame}
-use Rattle.image.specs.declared.Frame.the-variants.{Open, Const, Str, Code, End, Bad}
+use Rattle.image.specs.declared.Frame.the-variants.{Open, Const, Str, Code, End, Bad, Desc}
 
 -- a frame with all that it says: a prototype's registers and parameters; a constant's tag and word (nil, boolean, integer, float); a string's bytes; an
--- instruction's number; the number of prototypes; or, refused, 1 or 2
+-- instruction's number; the number of prototypes; or, refused, 1 or 2; a descriptor's kind and number
 pub data F : Type 0 where
   opens : ℕ → ℕ → F
   const : ℕ → ℕ → F
@@ -19,6 +19,7 @@ pub data F : Type 0 where
   code : ℕ → F
   ends : ℕ → F
   bad : ℕ → F
+  desc : ℕ → ℕ → F
 
 -- what the program's enum tells of a frame: of a string its length, since its bytes stay in the line
 unfoldable pub shape : F → Frame
@@ -28,6 +29,7 @@ shape (str l) = Str (length l)
 shape (code w) = Code w
 shape (ends n) = End n
 shape (bad k) = Bad k
+shape (desc k n) = Desc k n
 
 -- "`a0` registers (1 to 255), parameters (at most the registers): opens a prototype"
 unfoldable pub openBytes : List ℕ → F
@@ -66,13 +68,17 @@ codeBytes f =
 unfoldable pub endBytes : List ℕ → F
 endBytes f = cond (eqb (length f) 2) (ends (getD f 1 0)) (bad 2)
 
+-- document 02, 6/12: "descriptors (frames `d1`: 00 and a parent's register, or 01 and the parent's upvalue number)"
+unfoldable pub descBytes : List ℕ → F
+descBytes f = cond (eqb (length f) 3) (cond (leb (getD f 1 0) 1) (desc (getD f 1 0) (getD f 2 0)) (bad 2)) (bad 2)
+
 -- "The first byte is the kind."
 unfoldable pub kindBytes : List ℕ → F
 kindBytes f =
     cond (eqb (getD f 0 0) 0xa0) (openBytes f)
     (cond (eqb (getD f 0 0) 0xb0) (constBytes f)
     (cond (eqb (getD f 0 0) 0xc0) (codeBytes f)
-    (cond (eqb (getD f 0 0) 0xe0) (endBytes f) (bad 2))))
+    (cond (eqb (getD f 0 0) 0xe0) (endBytes f) (cond (eqb (getD f 0 0) 0xd1) (descBytes f) (bad 2)))))
 
 -- a line's text: 1 where "line is empty, not paired lowercase hex, or lacks LF"
 unfoldable pub frameOf : List ℕ → F

@@ -7,7 +7,7 @@ use lib.Dec.{leb, ltb, eqb}
 use mathlib.Core.Bool.{cond}
 use Rattle.image.specs.Frames.{F, shape, framesOf}
 use Rattle.image.specs.declared.Frame.{Frame}
-use Rattle.image.specs.declared.Frame.the-variants.{Open, Const, Str, Code, End, Bad}
+use Rattle.image.specs.declared.Frame.the-variants.{Open, Const, Str, Code, End, Bad, Desc}
 use Rattle.image.specs.declared.Counts.{Counts}
 use Rattle.image.specs.declared.Step.{Step}
 use Rattle.image.specs.declared.Step.the-variants.{On, Done, No}
@@ -19,7 +19,7 @@ unfoldable pub constStep : Counts → Step
 constStep st =
     cond (leb 1 (st .protos))
     (cond (eqb (st .codes) 0)
-    (cond (ltb (st .consts) 256) (On (record { protos = st .protos; consts = st .consts + 1; codes = st .codes })) (No 3))
+    (cond (ltb (st .consts) 256) (On (record { protos = st .protos; consts = st .consts + 1; codes = st .codes; descs = st .descs })) (No 3))
     (No 2))
     (No 2)
 
@@ -27,20 +27,32 @@ constStep st =
 unfoldable pub codeStep : Counts → Step
 codeStep st =
     cond (leb 1 (st .protos))
-    (cond (ltb (st .codes) 4096) (On (record { protos = st .protos; consts = st .consts; codes = st .codes + 1 })) (No 3))
+    (cond (ltb (st .codes) 4096) (On (record { protos = st .protos; consts = st .consts; codes = st .codes + 1; descs = st .descs })) (No 3))
+    (No 2)
+
+-- document 02, 6/12: a descriptor, "between `a0` and its constants" (2), "at most 8 (3)"
+unfoldable pub descStep : Counts → Step
+descStep st =
+    cond (leb 1 (st .protos))
+    (cond (eqb (st .consts) 0)
+    (cond (eqb (st .codes) 0)
+    (cond (ltb (st .descs) 8) (On (record { protos = st .protos; consts = st .consts; codes = st .codes; descs = st .descs + 1 })) (No 3))
+    (No 2))
+    (No 2))
     (No 2)
 
 -- one frame more: at most 32 prototypes (3); "e0 count wrong" (2)
 unfoldable pub frameStep : Counts → Frame → Step
-frameStep st (Open r p) = cond (ltb (st .protos) 32) (On (record { protos = st .protos + 1; consts = 0; codes = 0 })) (No 3)
+frameStep st (Open r p) = cond (ltb (st .protos) 32) (On (record { protos = st .protos + 1; consts = 0; codes = 0; descs = 0 })) (No 3)
 frameStep st (Const k w) = constStep st
 frameStep st (Str n) = constStep st
 frameStep st (Code w) = codeStep st
 frameStep st (End n) = cond (eqb n (st .protos)) Done (No 2)
 frameStep st (Bad k) = No k
+frameStep st (Desc k n) = descStep st
 
 abbrev pub start : Counts
-start = record { protos = 0; consts = 0; codes = 0 }
+start = record { protos = 0; consts = 0; codes = 0; descs = 0 }
 
 -- after e0: "or a byte after it"
 unfoldable pub atEnd : ℕ → ℕ → List F → Judged

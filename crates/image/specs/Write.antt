@@ -4,7 +4,7 @@ use mathlib.Core.List.{List, [], _∷_, _++_}
 use lib.Dec.{ltb}
 use mathlib.Core.Bool.{cond}
 use Rattle.image.specs.Instruction.{operationOf, flagsOf, aOf, bOf, cOf}
-use Rattle.image.specs.Frames.{F, opens, const, str, code, ends, bad, payload}
+use Rattle.image.specs.Frames.{F, opens, const, str, code, ends, bad, desc, payload}
 
 unfoldable pub hexDigit : ℕ → ℕ
 hexDigit n = cond (ltb n 10) (48 + n) (87 + n)
@@ -25,6 +25,7 @@ frameBytes (str l) = 0xb0 ∷ 4 ∷ l
 frameBytes (code w) = 0xc0 ∷ operationOf w ∷ flagsOf w ∷ aOf w ∷ bOf w ∷ cOf w ∷ []
 frameBytes (ends n) = 0xe0 ∷ n ∷ []
 frameBytes (bad k) = []
+frameBytes (desc k n) = 0xd1 ∷ k ∷ n ∷ []
 
 unfoldable pub written : List F → List ℕ
 written [] = []

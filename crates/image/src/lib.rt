@@ -2,7 +2,7 @@
 // instruction's five bytes as one number. The format itself is defined in specs/.
 ghost use mathlib.Core.Path.{_≡_};
 ghost use Rattle.image.specs.Instruction.{packed, operationOf, flagsOf, aOf, bOf, cOf};
-ghost use Rattle.image.specs.Judge.{constStep, codeStep, frameStep};
+ghost use Rattle.image.specs.Judge.{constStep, codeStep, descStep, frameStep};
 ghost use Rattle.image.specs.Frames.{payload, mostOf};
 
 // A line's frame. A string's bytes stay in the line; a frame that is none is Bad, with the refusal's number.
@@ -18,13 +18,16 @@ pub enum Frame {
     // The number of prototypes.
     End(u8),
     Bad(u8),
+    // A descriptor: its kind (0 a register of the parent, 1 an upvalue of it) and its number.
+    Desc(u8, u8),
 }
 
-// What has been counted: prototypes in all, constants and instructions of the last one.
+// What has been counted: prototypes in all; constants, instructions and descriptors of the last one.
 pub struct Counts {
     pub protos: usize,
     pub consts: usize,
     pub codes: usize,
+    pub descs: usize,
 }
 
 // What one frame more makes of the counts.
@@ -46,6 +49,7 @@ fn const_step(st: Counts) -> Step
     let p = st.protos;
     let c = st.consts;
     let k = st.codes;
+    let d = st.descs;
     if p < 1 {
         return Step::No(2);
     }
@@ -55,6 +59,7 @@ fn const_step(st: Counts) -> Step
                 protos: p,
                 consts: c + 1,
                 codes: k,
+                descs: d,
             });
         }
         return Step::No(3);
@@ -68,6 +73,7 @@ fn code_step(st: Counts) -> Step
     let p = st.protos;
     let c = st.consts;
     let k = st.codes;
+    let d = st.descs;
     if p < 1 {
         return Step::No(2);
     }
@@ -76,9 +82,37 @@ fn code_step(st: Counts) -> Step
             protos: p,
             consts: c,
             codes: k + 1,
+            descs: d,
         });
     }
     Step::No(3)
+}
+
+fn desc_step(st: Counts) -> Step
+    ensures { λ r. ⌜ r ≡ descStep st ⌝ }
+{
+    let p = st.protos;
+    let c = st.consts;
+    let k = st.codes;
+    let d = st.descs;
+    if p < 1 {
+        return Step::No(2);
+    }
+    if c == 0 {
+        if k == 0 {
+            if d < 8 {
+                return Step::On(Counts {
+                    protos: p,
+                    consts: c,
+                    codes: k,
+                    descs: d + 1,
+                });
+            }
+            return Step::No(3);
+        }
+        return Step::No(2);
+    }
+    Step::No(2)
 }
 
 // One frame more.
@@ -93,6 +127,7 @@ pub fn step_on(st: Counts, f: Frame) -> Step
                     protos: p + 1,
                     consts: 0,
                     codes: 0,
+                    descs: 0,
                 });
             }
             Step::No(3)
@@ -108,6 +143,7 @@ pub fn step_on(st: Counts, f: Frame) -> Step
             Step::No(2)
         }
         Frame::Bad(k) => Step::No(k),
+        Frame::Desc(_, _) => desc_step(st),
     }
 }
 

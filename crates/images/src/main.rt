@@ -197,7 +197,7 @@ fn one_less(n: usize) -> usize {
 
 // Reads the first n bytes, into slices that are one cell longer than published, and writes them back.
 fn run(image: &[u8], n: usize, line: &[u8]) {
-    let mut table = [0x5a5a_5a5a_5a5a_5a5au64; 134];
+    let mut table = [0x5a5a_5a5a_5a5a_5a5au64; 422];
     let mut code = [0x5a5a_5a5a_5a5a_5a5au64; 5042];
     let mut const_kinds = [0x5au8; 8449];
     let mut const_words = [0x5a5a_5a5a_5a5a_5a5au64; 8449];

@@ -3,13 +3,13 @@ use Prim.Native.Nat.{ℕ, zero, suc, _+_, _<_, _≤_}
 use native.Mathlib.Omega.{arith}
 use mathlib.Core.Path.{_≡_, refl, ap}
 use mathlib.Core.Bool.{true}
-use mathlib.Core.List.{List, [], _∷_}
+use mathlib.Core.List.{List, [], _∷_, _++_}
 use lib.ListN.{length, length-append}
 use Rattle.image.specs.Frames.{F, ends, shape}
 use Rattle.image.specs.Write.{written}
 use Rattle.storage.specs.Layout.{Storage}
-use Rattle.storage.specs.Fields.{prototypesOf, firstConstant, firstInstruction, constantsOf, instructionsOf}
-use Rattle.storage.specs.Stored.{readsBack, imageIn, framesIn, constFrames, codeFrames, protoFrames, protosFrames}
+use Rattle.storage.specs.Fields.{prototypesOf, firstConstant, firstInstruction, constantsOf, instructionsOf, descriptorsOf}
+use Rattle.storage.specs.Stored.{readsBack, imageIn, framesIn, constFrames, codeFrames, descFrames, protoFrames, protosFrames}
 use Rattle.storage.proofs.Sizes.{size-pos, size-first}
 use Rattle.storage.proofs.Six.{readable, fits}
 
@@ -28,7 +28,8 @@ unfolding protoFrames
 proto-long S q =
     let a : List F = constFrames S (constantsOf (S .table) q) (firstConstant (S .table) q) in
     let b : List F = codeFrames S (instructionsOf (S .table) q) (firstInstruction (S .table) q) in
-    omega (arith, length-append a b, code-length S (instructionsOf (S .table) q) (firstInstruction (S .table) q))
+    let d : List F = descFrames S q (descriptorsOf (S .table) q) 0 in
+    omega (arith, length-append (d ++ a) b, code-length S (instructionsOf (S .table) q) (firstInstruction (S .table) q))
 
 protos-long : (S : Storage) (n q j : ℕ) → j < n → instructionsOf (S .table) (q + j) ≤ length (protosFrames S n q)
 unfolding protosFrames

@@ -20,7 +20,7 @@ use Rattle.laws.specs.Statements as statements
 use Rattle.laws.specs.Statements.{Steps, afterRuns, joined, Resumable}
 use Rattle.laws.specs.Passes.{Reached}
 use Rattle.laws.specs.Chunks.{sumOf, Carried, RunsCarry, ChunksInRuns}
-use Rattle.laws.proofs.Steps.{Running}
+use Rattle.laws.proofs.Fitting.{Running}
 use Rattle.laws.proofs.Runs.{run-whole}
 use Rattle.laws.proofs.NoFault.{ends-apart}
 use Rattle.laws.proofs.Splits.{runs-on, split-any}

@@ -9,7 +9,7 @@ use mathlib.Core.List.{List, [], _∷_}
 use lib.ListN.{length, getD}
 use lib.Dec.{eqb}
 use borrow.Author.Tests.{eq-eqb, eqb-true, eqb-false, lt-ltb}
-use Rattle.image.specs.Frames.{F, opens, const, str, code, shape, mostOf}
+use Rattle.image.specs.Frames.{F, opens, const, str, code, desc, shape, mostOf}
 use Rattle.image.specs.declared.Counts.{Counts}
 use Rattle.image.specs.declared.Step.the-variants.{On, Done}
 use Rattle.choices.proofs.Choices.{cond-cases, by-order}
@@ -19,7 +19,7 @@ use Rattle.storage.specs.Layout.{Storage}
 use Rattle.storage.specs.Fields.{prototypesOf, entryPlace, registersOf, parametersOf, firstConstant, firstInstruction, constantsOf, constantKind, constantWord}
 use Rattle.storage.specs.Stored.{imageIn, readsBack}
 use Rattle.storage.specs.Cursor.{past}
-use Rattle.storage.proofs.Runs.{Runs, last, next, Told, opened, word, text, instruction, ended, told-as}
+use Rattle.storage.proofs.Runs.{Runs, last, next, Told, opened, word, text, instruction, ended, described, told-as}
 use Rattle.storage.proofs.Lies.{lies-rest, tops, Lie, lies-opened}
 use Rattle.storage.proofs.Seen.{Entry, open-seen, end-seen, word-seen, text-seen}
 use Rattle.storage.proofs.Reading.{reads-frames}
@@ -81,18 +81,18 @@ module _ (first : ℕ → ℕ) (q p c : ℕ) where
   grows-passed g = record { least = λ i a b. omega (arith, g .least i a b); grow = g .grow }
 
 module _ (S : Storage) (q : ℕ) where
-  registers-at : (p c k x r u : ℕ) → Entry (tops p c k x) S r u → registersOf (S .table) p ≡ r
-  registers-at p c k x r u e = ap (λ (n : ℕ). getD (S .table) n 0) (add-zero (entryPlace p)) ∙ e .registers
+  registers-at : (p c k x d r u : ℕ) → Entry (tops p c k x d) S r u → registersOf (S .table) p ≡ r
+  registers-at p c k x d r u e = ap (λ (n : ℕ). getD (S .table) n 0) (add-zero (entryPlace p)) ∙ e .registers
 
   from-next : {st u : Counts} {f : F} {fs : List F} → Told st f (On u) → Runs u q fs → Said f
-      → ((c k x : ℕ) → Lie S (u .protos) c k x fs → From S q (u .protos) c k)
-      → (c k x : ℕ) → Lie S (st .protos) c k x (f ∷ fs) → From S q (st .protos) c k
+      → ((c k x d : ℕ) → Lie S (u .protos) c k x d fs → From S q (u .protos) c k)
+      → (c k x d : ℕ) → Lie S (st .protos) c k x d (f ∷ fs) → From S q (st .protos) c k
   unfolding past shape
-  from-next {st} (opened {r} {p} a) h y ih c k x l =
-      let t = tops (st .protos) c k x in
-      let g = ih c k x (lies-opened S (st .protos) c k x r p _ l) in
+  from-next {st} (opened {r} {p} a) h y ih c k x d l =
+      let t = tops (st .protos) c k x d in
+      let g = ih c k x 0 (lies-opened S (st .protos) c k x d r p _ l) in
       let e = open-seen t S r p _ l in
-      let z = registers-at (st .protos) c k x r p e in
+      let z = registers-at (st .protos) c k x d r p e in
       record {
         protos = from-on (λ i. i < q → Proto (S .table) i) (st .protos)
             (λ m. record { some = omega (arith, y); few = omega (arith, y); parameters = omega (arith, y, e .parameters) })
@@ -101,10 +101,10 @@ module _ (S : Storage) (q : ℕ) where
         codes = grows-entry (firstInstruction (S .table)) q (st .protos) k (e .codes) (g .codes);
         constants = g .constants;
       }
-  from-next {st} (word {k = tag} {w} a b) h y ih c k x l =
-      let t = tops (st .protos) c k x in
+  from-next {st} (word {k = tag} {w} a b) h y ih c k x d l =
+      let t = tops (st .protos) c k x d in
       let e = word-seen t S h tag w l in
-      let g = ih (c + 1) k x (lies-rest t (const tag w) _ S l) in
+      let g = ih (c + 1) k x d (lies-rest t (const tag w) _ S l) in
       record {
         protos = g .protos;
         consts = grows-passed (firstConstant (S .table)) q (st .protos) c (g .consts);
@@ -115,10 +115,10 @@ module _ (S : Storage) (q : ℕ) where
             (λ m. rw (e .kind, e .word) (record { kind = omega (arith, y); most = λ n. y .1 }))
             (g .constants);
       }
-  from-next {st} (text {l = b} a d) h y ih c k x l =
-      let t = tops (st .protos) c k x in
+  from-next {st} (text {l = b} a e) h y ih c k x d l =
+      let t = tops (st .protos) c k x d in
       let e = text-seen t S h b l in
-      let g = ih (c + 1) k (x + length b) (lies-rest t (str b) _ S l) in
+      let g = ih (c + 1) k (x + length b) d (lies-rest t (str b) _ S l) in
       record {
         protos = g .protos;
         consts = grows-passed (firstConstant (S .table)) q (st .protos) c (g .consts);
@@ -129,20 +129,21 @@ module _ (S : Storage) (q : ℕ) where
             (λ m. rw (e .kind) (record { kind = omega arith; most = λ n. absurd (omega arith) }))
             (g .constants);
       }
-  from-next {st} (instruction {w} a) h y ih c k x l =
-      let t = tops (st .protos) c k x in
-      let g = ih c (k + 1) x (lies-rest t (code w) _ S l) in
+  from-next {st} (instruction {w} a) h y ih c k x d l =
+      let t = tops (st .protos) c k x d in
+      let g = ih c (k + 1) x d (lies-rest t (code w) _ S l) in
       record {
         protos = g .protos;
         consts = g .consts;
         codes = grows-passed (firstInstruction (S .table)) q (st .protos) k (g .codes);
         constants = g .constants;
       }
+  from-next {st} (described {k = tag} {n} a b e f) h y ih c k x d l = ih c k x (d + 1) (lies-rest (tops (st .protos) c k x d) (desc tag n) _ S l)
 
-  from-last : {st : Counts} {f : F} → Told st f Done → st .protos ≡ q → (c k x : ℕ) → Lie S (st .protos) c k x (f ∷ [])
+  from-last : {st : Counts} {f : F} → Told st f Done → st .protos ≡ q → (c k x d : ℕ) → Lie S (st .protos) c k x d (f ∷ [])
       → From S q (st .protos) c k
-  from-last {st} (ended {m} e) z c k x l =
-      let s = rw z at (end-seen (tops (st .protos) c k x) S m [] l) in
+  from-last {st} (ended {m} e) z c k x d l =
+      let s = rw z at (end-seen (tops (st .protos) c k x d) S m [] l) in
       record {
         protos = λ i a b. absurd (omega arith);
         consts = grows-last (firstConstant (S .table)) q (st .protos) c z (s .consts);
@@ -150,9 +151,9 @@ module _ (S : Storage) (q : ℕ) where
         constants = λ i a b. absurd (omega (arith, s .consts));
       }
 
-  from-runs : {st : Counts} {fs : List F} → Runs st q fs → AllSaid fs → (c k x : ℕ) → Lie S (st .protos) c k x fs → From S q (st .protos) c k
-  from-runs (last r e) ys c k x l = from-last (told-as r) e c k x l
-  from-runs (next r h) (more y ys) c k x l = from-next (told-as r) h y (λ c k x l. from-runs h ys c k x l) c k x l
+  from-runs : {st : Counts} {fs : List F} → Runs st q fs → AllSaid fs → (c k x d : ℕ) → Lie S (st .protos) c k x d fs → From S q (st .protos) c k
+  from-runs (last r e) ys c k x d l = from-last (told-as r) e c k x d l
+  from-runs (next r h) (more y ys) c k x d l = from-next (told-as r) h y (λ c k x d l. from-runs h ys c k x d l) c k x d l
 
 -- ---- the whole storage
 
@@ -161,7 +162,7 @@ module _ (S : Storage) (read : readsBack S ≡ true) where
   from-front =
       let r = readable S read in
       let f = reads-frames r in
-      from-runs S (prototypesOf (S .table)) (f .runs) (accepted-said (imageIn S) (r .count) (r .accepted)) 0 0 0 (f .lies)
+      from-runs S (prototypesOf (S .table)) (f .runs) (accepted-said (imageIn S) (r .count) (r .accepted)) 0 0 0 0 (f .lies)
 
   -- registers 1 to 255, parameters at most the registers
   pub proto-fits : (q : ℕ) → q < prototypesOf (S .table) → Proto (S .table) q
@@ -191,23 +192,23 @@ proper-value (suc (suc zero)) w h m = refl
 proper-value (suc (suc (suc zero))) w h m = refl
 proper-value (suc (suc (suc (suc k)))) w h m = absurd (omega arith)
 
-module _ (table kinds words : List ℕ) (i : ℕ) where
-  string-fits : getD kinds i 0 ≡ 4 → i < firstConstant table (prototypesOf table) → valueFits table kinds (getD kinds i 0) i ≡ true
+module _ (table kinds words frames : List ℕ) (i : ℕ) where
+  string-fits : getD kinds i 0 ≡ 4 → i < firstConstant table (prototypesOf table) → valueFits table kinds frames (getD kinds i 0) i ≡ true
   unfolding valueFits isValue
   string-fits e h = rw (e, lt-ltb i (firstConstant table (prototypesOf table)) h)
 
   proper-fits : i < firstConstant table (prototypesOf table) → Proper (getD kinds i 0) (getD words i 0)
-      → valueFits table kinds (getD kinds i 0) (cond (eqb (getD kinds i 0) 4) i (getD words i 0)) ≡ true
+      → valueFits table kinds frames (getD kinds i 0) (cond (eqb (getD kinds i 0) 4) i (getD words i 0)) ≡ true
   proper-fits h p =
-      cond-cases (λ w. valueFits table kinds (getD kinds i 0) w ≡ true) (eqb (getD kinds i 0) 4) _ _
+      cond-cases (λ w. valueFits table kinds frames (getD kinds i 0) w ≡ true) (eqb (getD kinds i 0) 4) _ _
       (λ e. string-fits (eqb-true _ _ e) h)
       (λ e. let n = eqb-false (getD kinds i 0) 4 e in
       let f : getD kinds i 0 < 4 = omega (arith, p .kind) in
-      sym (value-other table kinds _ _ (proper-value _ _ f (p .most f)) (λ z. omega arith) (λ z. omega arith)))
+      sym (value-other table kinds frames _ _ (proper-value _ _ f (p .most f)) (λ z. omega arith) (λ z. omega arith)))
 
-pub constant-fits : (S : Storage) → readsBack S ≡ true → (q c : ℕ) → q < prototypesOf (S .table) → c < constantsOf (S .table) q
-    → valueFits (S .table) (S .kinds) (constantKind (S .table) (S .kinds) q c) (constantWord (S .table) (S .kinds) (S .words) q c) ≡ true
-constant-fits S read q c h g =
+pub constant-fits : (S : Storage) (frames : List ℕ) → readsBack S ≡ true → (q c : ℕ) → q < prototypesOf (S .table) → c < constantsOf (S .table) q
+    → valueFits (S .table) (S .kinds) frames (constantKind (S .table) (S .kinds) q c) (constantWord (S .table) (S .kinds) (S .words) q c) ≡ true
+constant-fits S frames read q c h g =
     let i : firstConstant (S .table) q + c < firstConstant (S .table) (prototypesOf (S .table)) =
     omega (arith, constants-grow S read (q + 1) (prototypesOf (S .table)) (omega arith) (omega arith)) in
-    proper-fits (S .table) (S .kinds) (S .words) (firstConstant (S .table) q + c) i (constant-proper S read _ i)
+    proper-fits (S .table) (S .kinds) (S .words) frames (firstConstant (S .table) q + c) i (constant-proper S read _ i)

@@ -22,7 +22,7 @@ use Rattle.laws.specs.Passes.{LoopAt, Controls, visits, lives, Comes, he
 use Rattle.laws.specs.Chunks.{isPast, Setting, Fits64, firstVisit, Turns, EveryChunk, ChunksSoFar}
 use Rattle.laws.proofs.Whole.{least-of, swap, le-add, le-trans, le-lt-trans, lt-trans, less-by}
 use Rattle.laws.proofs.Listing.{past-up}
-use Rattle.laws.proofs.Steps.{Running}
+use Rattle.laws.proofs.Fitting.{Running}
 use Rattle.laws.proofs.Stories.{comes-once, comes-steps, step-running, so-far, any-edition}
 use Rattle.laws.proofs.Visits.{held-small, StandsAt, opener, prep-step, prep-visit, prep-controls, visit-turns}
 

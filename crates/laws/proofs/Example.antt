@@ -1,28 +1,29 @@
 -- The session of 01 is read, written back, accepted and started. Assumes nothing.
-use mathlib.Core.Path.{_≡_, refl, sym, ap, _∙_}
+use mathlib.Core.Path.{_≡_, refl, sym, ap, _∙_, subst}
 use mathlib.Core.Bool.{true}
 use mathlib.Core.List.{List, [], _∷_}
 use Prim.Native.Nat.{ℕ, _<_}
 use native.Mathlib.Omega.{arith}
-use borrow.Author.Tests.{eqb-true, eqb-false}
+use borrow.Author.Tests.{eqb-true, eqb-false, eq-eqb, leb-true}
 use lib.Dec.{eqb}
-use lib.ListN.{drop}
-use lib.Seq.{take-append-seam}
-use Rattle.choices.proofs.Choices.{by-bool}
+use lib.ListN.{length, getD, set, drop, length-drop}
+use lib.Seq.{getD-set-same}
+use Rattle.choices.proofs.Choices.{by-bool, cond-true}
 use Rattle.image.specs.Hex.{digitOf, paired, bytesOf, wordFrom}
 use Rattle.image.specs.Lines.{onto, lines}
 use Rattle.image.specs.Frames.{F, opens, const, code, ends, shape, openBytes, payload, mostOf, wordBytesOf, constBytes, codeBytes, endBytes, kindBytes, frameOf, lineFrame, framesOf}
 use Rattle.image.specs.Judge.{constStep, codeStep, frameStep, atEnd, judgeAfter, judgeFrames, judgeOf}
 use Rattle.image.specs.declared.Judged.the-variants as judged
-use Rattle.storage.specs.Layout.{Storage, entryOf, codesOf, kindsOf, entriesAll, codesAll, contentsOf, laidIn, longEnough}
-use Rattle.storage.specs.Stored.{imageIn, readsBack}
-use Rattle.storage.proofs.Six.{readable, readable-back}
+use Rattle.storage.specs.Layout.{Storage, entryOf, codesOf, kindsOf, entriesAll, codesAll, descriptorsAhead, described, laidIn, tableSize, longEnough}
+use Rattle.storage.specs.Stored.{ReadsTo}
 use Rattle.reader.specs.Reading.{readOf, leftOf}
+use Rattle.reader.proofs.Contents.{reads-to}
 use Rattle.writer.specs.Writing.{writeOf, outOf, Written}
 use Rattle.writer.specs.declared.Wrote.{Wrote}
 use Rattle.writer.proofs.RoundTrip.{left-long, read-written}
 use Rattle.checker.specs.Operations.{shapeOf, nextOf}
-use Rattle.checker.specs.Rules.{carried, tidy, registersIn, constantsIn, inside, allInside, targetsIn, prototypeInImage}
+use Rattle.checker.specs.Rules.{carried, tidy, registersIn, constantsIn, inside, allInside, targetsIn, prototypeInImage, upvaluesIn}
+use Rattle.checker.specs.Captures.{bareAt}
 use Rattle.checker.specs.Check.{checkOf}
 use Rattle.checker.specs.declared.Checked.the-variants.{Accepted}
 use Rattle.checker.specs.Kept.{KeptAt, Sound, Demanded}
@@ -44,23 +45,14 @@ image-accepted = refl
 
 -- ---- read
 
-reads : (lent : Storage) → readsBack (sessionIn lent) ≡ true
-unfolding sessionIn
-reads lent =
-    readable-back {s = sessionImage}
-    record {
-      count = 1;
-      accepted = image-accepted;
-      table = take-append-seam _ _;
-      code = take-append-seam _ _;
-      kinds = take-append-seam _ _;
-      words = take-append-seam _ _;
-      texts = take-append-seam _ _;
-    }
+pub session-reads : SessionReads
+unfolding readOf leftOf sessionIn
+session-reads lent l = record { answer = rw (l, image-accepted); left = refl }
 
 -- ---- accepted
 
-module _ (x y : List ℕ) where
+-- prototype 0 has no descriptors: their number stands 124 words behind the closing entry
+module _ (x y : List ℕ) (bare : getD x 124 0 ≡ 0) where
   abbrev table : List ℕ
   table = 1 ∷ 1 ∷ 0 ∷ 0 ∷ 0 ∷ 0 ∷ 0 ∷ 1 ∷ 2 ∷ x
 
@@ -68,12 +60,12 @@ module _ (x y : List ℕ) where
   codes = 0x400_0000 ∷ 0x3000_0100 ∷ y
 
   first : KeptAt table codes 0 0
-  unfolding shapeOf carried tidy registersIn constantsIn targetsIn allInside inside nextOf prototypeInImage
-  first = record { carried = refl; tidy = refl; registers = refl; constants = refl; targets = refl; prototype = refl }
+  unfolding shapeOf carried tidy registersIn constantsIn targetsIn allInside inside nextOf prototypeInImage upvaluesIn bareAt
+  first = record { carried = refl; tidy = refl; registers = refl; constants = refl; targets = refl; prototype = refl; upvalues = eq-eqb _ 0 bare }
 
   second : KeptAt table codes 0 1
-  unfolding shapeOf carried tidy registersIn constantsIn targetsIn allInside inside nextOf prototypeInImage
-  second = record { carried = refl; tidy = refl; registers = refl; constants = refl; targets = refl; prototype = refl }
+  unfolding shapeOf carried tidy registersIn constantsIn targetsIn allInside inside nextOf prototypeInImage upvaluesIn bareAt
+  second = record { carried = refl; tidy = refl; registers = refl; constants = refl; targets = refl; prototype = refl; upvalues = refl }
 
   each : (i : ℕ) → i < 2 → KeptAt table codes 0 i
   each i h =
@@ -89,21 +81,23 @@ module _ (x y : List ℕ) where
 
 -- the storage with the frames written out
 abbrev plain : Storage → Storage
-plain lent = laidIn (contentsOf 1 frames) lent
+plain lent = laidIn 1 frames lent
 
 plain-is : (lent : Storage) → sessionIn lent ≡ plain lent
 unfolding sessionIn
-plain-is lent = ap (λ (fs : List F). laidIn (contentsOf 1 fs) lent) frames-are
+plain-is lent = ap (λ (fs : List F). laidIn 1 fs lent) frames-are
 
 demanded : (lent : Storage) → longEnough lent ≡ true → Demanded (plain lent)
-unfolding entriesAll entryOf codesAll codesOf kindsOf
+unfolding described descriptorsAhead entriesAll entryOf codesAll codesOf kindsOf longEnough
 demanded lent l =
+    let h = leb-true tableSize (length (lent .table)) (cond-true _ _ l .0) in
+    let g : 124 < length (drop 9 (lent .table)) = rw length-drop (omega arith) in
     record {
-      long = left-long (contentsOf 1 frames) lent l;
-      image = imageIn (plain lent);
-      reads = readable (plain lent) (sym (ap readsBack (plain-is lent)) ∙ reads lent);
+      long = left-long 1 frames lent l;
+      image = sessionImage;
+      reads = subst (ReadsTo sessionImage) (plain-is lent) (reads-to sessionImage 1 lent (sessionIn lent) (session-reads lent l));
       some = (λ e. omega arith);
-      each = sound (drop 9 (lent .table)) (drop 2 (lent .code));
+      each = sound (set (drop 9 (lent .table)) 124 0) (drop 2 (lent .code)) (getD-set-same (drop 9 (lent .table)) 124 0 0 g);
     }
 
 accepted : (lent : Storage) → longEnough lent ≡ true → checkOf (sessionIn lent) ≡ Accepted
@@ -115,11 +109,7 @@ pub session-starts : SessionStarts
 unfolding startOf checkedStart permitted allBelow
 session-starts lent s l h = rw (h, accepted lent l)
 
--- ---- read and written back
-
-pub session-reads : SessionReads
-unfolding readOf leftOf sessionIn
-session-reads lent l = record { answer = rw (l, image-accepted); left = refl }
+-- ---- written back
 
 pub session-written : SessionWritten
 session-written lent out l h =

@@ -1,4 +1,5 @@
--- The demands on one page: a proof of each statement of specs/Statements, and of document 02's laws: of loops (specs/Chunks, specs/Needed), of whom an error names (specs/Operands). Assumes nothing.
+-- The demands on one page: a proof of each statement of specs/Statements, and of document 02's laws: of loops (specs/Chunks, specs/Needed), of whom an error names
+-- (specs/Operands), of what closures share (specs/Sharing). Assumes nothing.
 use mathlib.Core.Path.{_≡_, refl}
 use mathlib.Core.List.{List, []}
 use Prim.Native.Nat.{ℕ}
@@ -15,6 +16,7 @@ use Rattle.laws.specs.Session as session
 use Rattle.laws.specs.Chunks as chunks
 use Rattle.laws.specs.Needed as needed
 use Rattle.laws.specs.Operands as operands
+use Rattle.laws.specs.Sharing as sharing
 use Rattle.laws.proofs.NoFault as ends
 use Rattle.laws.proofs.Runs.{run-whole}
 use Rattle.laws.proofs.Started.{begun-demanded}
@@ -27,6 +29,9 @@ use Rattle.laws.proofs.Listing as listing
 use Rattle.laws.proofs.Carrying as carrying
 use Rattle.laws.proofs.Needed as computed
 use Rattle.laws.proofs.Operands as naming
+use Rattle.laws.proofs.Sharing as shared
+use Rattle.laws.proofs.Making as making
+use Rattle.laws.proofs.Remembering as remembering
 
 -- ---- demand 1: the sizes
 
@@ -171,3 +176,44 @@ answered-again = naming.answered-again
 
 pub nil-named : operands.NilNamed
 nil-named = naming.nil-named
+
+-- ---- document 02, 6/12: closures with upvalues
+
+pub open-is-register : sharing.OpenIsRegister
+open-is-register = shared.open-is-register
+
+pub one-register-shared : sharing.OneRegisterShared
+one-register-shared = shared.one-register-shared
+
+pub gets-upvalue : sharing.GetsUpvalue
+gets-upvalue = shared.gets-upvalue
+
+pub sets-upvalue : sharing.SetsUpvalue
+sets-upvalue = shared.sets-upvalue
+
+pub makes-closure : sharing.MakesClosure
+makes-closure = making.makes-closure
+
+pub no-entry : sharing.NoEntry
+no-entry = making.no-entry
+
+pub too-few-cells : sharing.TooFewCells
+too-few-cells = making.too-few-cells
+
+pub jump-closes : sharing.JumpCloses
+jump-closes = shared.jump-closes
+
+pub return-closes : sharing.ReturnCloses
+return-closes = shared.return-closes
+
+pub closed-keeps : sharing.ClosedKeeps
+closed-keeps = shared.closed-keeps
+
+pub closed-spares : sharing.ClosedSpares
+closed-spares = shared.closed-spares
+
+pub one-entry : sharing.OneEntry
+one-entry = shared.one-entry
+
+pub remembered : sharing.Remembered
+remembered = remembering.remembered

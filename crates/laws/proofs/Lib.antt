@@ -9,6 +9,7 @@ pub mod Bounds
 pub mod Naming
 pub mod Moves
 pub mod Marks
+pub mod Fitting
 pub mod Steps
 pub mod Runs
 pub mod Started
@@ -27,4 +28,7 @@ pub mod Walks
 pub mod Trails
 pub mod Needed
 pub mod Operands
+pub mod Sharing
+pub mod Making
+pub mod Remembering
 pub mod Laws

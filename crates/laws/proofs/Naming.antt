@@ -1,4 +1,4 @@
--- What an effect says of its instruction: only a Call enters, only a Return leaves, and in an accepted image none faults. Assumes nothing.
+-- What an effect says of its instruction: only a Call enters, only a Return leaves, only a Closure captures, and in an accepted image none faults. Assumes nothing.
 use mathlib.Core.Path.{_≡_, refl, sym, _∙_}
 use mathlib.Core.Bool.{Bool, true, Bool·beq, false≢true}
 use mathlib.Core.List.{List}
@@ -32,7 +32,7 @@ use Rattle.checker.proofs.Lowest.{unbroken, not-carried}
 use Rattle.effects.specs.declared.Go.{Go}
 use Rattle.effects.specs.declared.Go.the-variants.{To}
 use Rattle.effects.specs.declared.Effect.{Effect}
-use Rattle.effects.specs.declared.Effect.the-variants.{Set, Goto, Clear, Loop, Enter, Leave, Fail, Fault}
+use Rattle.effects.specs.declared.Effect.the-variants.{Set, Goto, Clear, Loop, Enter, Leave, Fail, Fault, Get, Put, Close, Capture}
 use Rattle.effects.specs.Effects.{Sight, stored, skipIf, decided, unaryEffect, compareEffect, testSetEffect, prepEffect, loopWith, loopEffect, effectOf}
 use Rattle.fitness.specs.Fit.{isCall, isReturn, decodedAt}
 
@@ -65,6 +65,10 @@ Tells i (Enter function arguments) = isCall (classOf i) ≡ true
 Tells i (Leave start n) = isReturn (classOf i) ≡ true
 Tells i (Fail n named) = Unit {0}
 Tells i Fault = ⊥
+Tells i (Get dest upvalue) = Unit {0}
+Tells i (Put upvalue source) = Unit {0}
+Tells i (Close from target) = Unit {0}
+Tells i (Capture dest q) = i ≡ instruction.Closure dest q
 
 module _ (i : Instruction) where
   stored-tells : (r : ℕ) (go : Go) (a : Answer) → Tells i (stored r go a)
@@ -122,9 +126,12 @@ effect-tells g (instruction.Return s m) n = refl
 effect-tells g (instruction.Jump t) n = tt
 effect-tells g (instruction.Test r b) n = tt
 effect-tells g (instruction.TestSet d r b) n = test-set-tells (instruction.TestSet d r b) d b _ _
-effect-tells g (instruction.Closure d q) n = tt
+effect-tells g (instruction.Closure d q) n = refl
 effect-tells g (instruction.NumericForPrep b t) n = prep-tells (instruction.NumericForPrep b t) _ _ b t
 effect-tells g (instruction.NumericForLoop b t) n = loop-tells (instruction.NumericForLoop b t) _ _ _ b t
 effect-tells g (instruction.Compare c b l r) n = compare-tells (instruction.Compare c b l r) _ _ c b _ _
 effect-tells g (instruction.Binary o d l r) n = stored-tells (instruction.Binary o d l r) d _ _
 effect-tells g (instruction.Bad m) n = absurd (n m refl)
+effect-tells g (instruction.GetUpValue d u) n = tt
+effect-tells g (instruction.SetUpValue u s) n = tt
+effect-tells g (instruction.Close f t) n = tt

@@ -26,7 +26,7 @@ use Rattle.constant.specs.declared.Value.{Value}
 use Rattle.effects.specs.Effects.{Sight, registerValue, operandValue, binaryAnswer, effectOf}
 use Rattle.effects.specs.Raising.{Raised, raising, nothingRaised, raisedBy, Fitness, fitness, isFit, namedIn, unaryFitness, binaryFitness, compareFitness, figureIn, loopFitness, prepFitness, fitnessOf, unaryNumber, binaryNumber, compareNumber, isInteger, isZeroInteger, dividing, byZero, raisedFor, raisedOf}
 use Rattle.effects.specs.declared.Effect.{Effect}
-use Rattle.effects.specs.declared.Effect.the-variants.{Set, Goto, Clear, Loop, Enter, Leave, Fail, Fault}
+use Rattle.effects.specs.declared.Effect.the-variants.{Set, Goto, Clear, Loop, Enter, Leave, Fail, Fault, Get, Put, Close, Capture}
 use Rattle.effects.proofs.Raises.{raises, first-named}
 use Rattle.fitness.specs.Fit.{fitOf, decodedAt}
 use Rattle.state.specs.Marks.{isLuaError}
@@ -37,9 +37,11 @@ use Rattle.state.specs.declared.Activation.{Activation}
 use Rattle.state.specs.States.{State}
 use Rattle.state.proofs.Marks.{error-stands, error-no-fault}
 use Rattle.state.proofs.Fields.{mark-operand}
+use Rattle.cells.specs.Cells.{entryIn}
+use Rattle.cells.proofs.Opening.{refusal-cases}
 use Rattle.fitness.proofs.Facts.{fit-facts}
 use Rattle.state.proofs.Inmost.{marked-innermost}
-use Rattle.step.specs.Step.{Turn, on, stop, fault, marked, callerOf, enterOf, backOf, leaveOf, carriedOut, effectAt, stepOf}
+use Rattle.step.specs.Step.{Turn, on, stop, fault, marked, callerOf, enterOf, backOf, leaveOf, movedOn, closeOf, captureOf, carriedOut, effectAt, stepOf}
 use Rattle.step.specs.Run.{Ended, ended, keptFor, answerOf, standingOf, runOf}
 use Rattle.step.proofs.Runs.{fit-steady, standing-on}
 use Rattle.step.proofs.Steps.{steady-on}
@@ -148,6 +150,9 @@ raised-case g (instruction.Binary o dest l r) =
     let b = figureIn g (operandValue g r) in
     for-case (binaryFitness o a b) (binaryNumber o) (byZero o a b) (binary-low o) (λ h. zero-case (binaryFitness o a b) o a b h)
 raised-case g (instruction.Bad n) = nothing refl
+raised-case g (instruction.GetUpValue dest u) = nothing refl
+raised-case g (instruction.SetUpValue u source) = nothing refl
+raised-case g (instruction.Close from target) = nothing refl
 
 -- what each of them says of the number and the operand
 
@@ -211,10 +216,11 @@ module _ (table code : List ℕ) (a : Activation) (s : State) where
   unfolding enterOf
   enter-failing function arguments =
       let F = Failing s (Enter function arguments) in
+      let q = entryIn (s .frames) (getD (s .words) (a .base + function) 0) - 1 in
       cond-cases F (eqb (getD (s .kinds) (a .base + function) 0) 5) _ _
       (λ _. cond-cases F (leb 16 (a .depth)) _ _ (λ _ x y. absurd (omega arith))
       (λ _. cond-cases F
-      (ltb 2048 (a .base + registersOf table (a .prototype) + registersOf table (getD (s .words) (a .base + function) 0))) _ _
+      (ltb 2048 (a .base + registersOf table (a .prototype) + registersOf table q)) _ _
       (λ _ x y. absurd (omega arith)) (λ _. tt)))
       (λ _ x y. absurd (omega arith))
 
@@ -230,8 +236,13 @@ module _ (table code : List ℕ) (a : Activation) (s : State) where
       cond-cases (Failing s (Leave start n)) (leb (a .depth) 1) _ _ (λ _ x y. absurd (omega arith))
       (λ _. back-failing (callerOf table (s .frames) a) start n _)
 
+  capture-failing : (dest q : ℕ) → Failing s (Capture dest q) (captureOf table a s dest q)
+  unfolding captureOf
+  capture-failing dest q =
+      refusal-cases table q (a .base) (s .frames) (λ e. rw e tt) (λ e. rw e (λ x y. absurd (omega arith))) (λ e. rw e (λ x y. absurd (omega arith)))
+
   failing : (e : Effect) → Failing s e (carriedOut table code a s e)
-  unfolding carriedOut
+  unfolding carriedOut movedOn closeOf
   failing (Set r k w go) = tt
   failing (Goto go) = tt
   failing (Clear r n) = tt
@@ -240,6 +251,10 @@ module _ (table code : List ℕ) (a : Activation) (s : State) where
   failing (Leave start n) = leave-failing start n
   failing (Fail n operand) = λ _ _. record { operand = operand; effect = refl; same = refl }
   failing Fault = tt
+  failing (Get dest u) = tt
+  failing (Put u source) = tt
+  failing (Close from target) = tt
+  failing (Capture dest q) = capture-failing dest q
 
 step-failing : (S : Storage) (s : State) → Failing s (effectAt S (innermost (S .table) (s .frames)) s) (stepOf S s)
 unfolding stepOf
@@ -321,7 +336,7 @@ again-in (stood n) r h fit c = absurd (n r)
 again-in (spent t x) r h fit c = absurd (error-stands 70 h refl)
 again-in {S} (stopped n k t u l x e) r h fit c =
     let m = rw e at (marks S t) in
-    splits.repeats S u fit k (m .1) (splits.stopped S t k u (m .0) (m .1) (fit-facts S u fit .stack .steady .long)) c
+    splits.repeats S u fit k (m .1) (splits.stopped S k u (m .0) (m .1) (fit-facts S u fit .stack .steady .long)) c
 again-in (faulted n t u l x e) r h fit c = absurd (error-no-fault 60 h refl)
 
 pub answered-again : AnsweredAgain

@@ -43,15 +43,15 @@ Plain (Number x) = Unit {0}
 Plain (String n) = ⊥
 Plain (Function n) = ⊥
 
-pub plain-fits : (table kinds : List ℕ) (v : Value) → Plain v → valueFits table kinds (kindOf v) (wordOf v) ≡ true
+pub plain-fits : (table kinds frames : List ℕ) (v : Value) → Plain v → valueFits table kinds frames (kindOf v) (wordOf v) ≡ true
 unfolding valueFits isValue
-plain-fits table kinds Nil p = absurd p
-plain-fits table kinds (Boolean true) p = refl
-plain-fits table kinds (Boolean false) p = refl
-plain-fits table kinds (Integer x) p = refl
-plain-fits table kinds (Number x) p = refl
-plain-fits table kinds (String n) p = absurd p
-plain-fits table kinds (Function n) p = absurd p
+plain-fits table kinds frames Nil p = absurd p
+plain-fits table kinds frames (Boolean true) p = refl
+plain-fits table kinds frames (Boolean false) p = refl
+plain-fits table kinds frames (Integer x) p = refl
+plain-fits table kinds frames (Number x) p = refl
+plain-fits table kinds frames (String n) p = absurd p
+plain-fits table kinds frames (Function n) p = absurd p
 
 -- ---- the operators
 
@@ -110,27 +110,27 @@ binary-plain binary.ShiftRight a b = bitwise-plain _ _ a b (integers a b)
 
 -- ---- their effects
 
-module _ (S : Storage) where
-  pub stored-holds : (dest : ℕ) (go : Go) (a : Answer) → PlainAnswer a → Holds S (stored dest go a)
+module _ (S : Storage) (f : List ℕ) where
+  pub stored-holds : (dest : ℕ) (go : Go) (a : Answer) → PlainAnswer a → Holds S f (stored dest go a)
   unfolding stored
-  stored-holds dest go (Is v) p = plain-fits (S .table) (S .kinds) v p
+  stored-holds dest go (Is v) p = plain-fits (S .table) (S .kinds) f v p
   stored-holds dest go (Raises e named) p = tt
 
-  pub prep-holds : (index step : Value) (base target : ℕ) → Holds S (prepEffect index step base target)
+  pub prep-holds : (index step : Value) (base target : ℕ) → Holds S f (prepEffect index step base target)
   unfolding prepEffect
   prep-holds index step base target =
-      cond-cases (Holds S) (eqb (firstUnfit (isNumeric index) true (isNumeric step)) 0) _ _
+      cond-cases (Holds S f) (eqb (firstUnfit (isNumeric index) true (isNumeric step)) 0) _ _
       (λ e. stored-holds base _ (subtractOf index step) (subtract-plain index step)) (λ e. tt)
 
-  turn-holds : (limit step : Value) (base target : ℕ) (a : Answer) → PlainAnswer a → Holds S (loopWith limit step base target a)
+  turn-holds : (limit step : Value) (base target : ℕ) (a : Answer) → PlainAnswer a → Holds S f (loopWith limit step base target a)
   unfolding loopWith
   turn-holds limit step base target (Is v) p =
-      let h = plain-fits (S .table) (S .kinds) v p in
-      cond-cases (Holds S) (pastEndOf v limit step) _ _ (λ e. h) (λ e. h)
+      let h = plain-fits (S .table) (S .kinds) f v p in
+      cond-cases (Holds S f) (pastEndOf v limit step) _ _ (λ e. h) (λ e. h)
   turn-holds limit step base target (Raises e named) p = tt
 
-  pub loop-holds : (index limit step : Value) (base target : ℕ) → Holds S (loopEffect index limit step base target)
+  pub loop-holds : (index limit step : Value) (base target : ℕ) → Holds S f (loopEffect index limit step base target)
   unfolding loopEffect
   loop-holds index limit step base target =
-      cond-cases (Holds S) (eqb (firstUnfit (isNumeric index) (isNumeric limit) (isNumeric step)) 0) _ _
+      cond-cases (Holds S f) (eqb (firstUnfit (isNumeric index) (isNumeric limit) (isNumeric step)) 0) _ _
       (λ e. turn-holds limit step base target (addOf index step) (add-plain index step)) (λ e. tt)

@@ -30,7 +30,8 @@ use Rattle.laws.proofs.Values.{effect-holds}
 use Rattle.laws.proofs.Naming.{decoded-good, effect-tells}
 use Rattle.laws.proofs.Marks as marks
 use Rattle.laws.proofs.Marks.{Halts}
-use Rattle.laws.proofs.Steps.{Running, Stays, applied}
+use Rattle.laws.proofs.Fitting.{Running}
+use Rattle.laws.proofs.Steps.{Stays, applied}
 
 -- ---- marks
 
@@ -44,10 +45,10 @@ halts-ends budget o n z (marks.failed x) = failed (rw z x)
 -- ---- one step
 
 live :
-    (t c : List ℕ) (m base n : ℕ) (k w : List ℕ) → Valid t c m k w → m ≡ base + n → (r : ℕ) → r < n
-    → registerFits t c k w (base + r) ≡ true
+    (t c f : List ℕ) (m base n : ℕ) (k w : List ℕ) → Valid t c f m k w → m ≡ base + n → (r : ℕ) → r < n
+    → registerFits t c f k w (base + r) ≡ true
 unfolding Valid
-live t c m base n k w v e r l = v (base + r) (omega arith)
+live t c f m base n k w v e r l = v (base + r) (omega arith)
 
 pub step-stays : (S : Storage) (s : State) → Demanded S → Running S s → Stays S (stepOf S s)
 unfolding stepOf innermost
@@ -66,8 +67,8 @@ step-stays S s demanded h =
     let g : Sight = sight t (S .kinds) (S .words) (S .texts) (s .kinds) (s .words) q base in
     let end : baseOf t f (depthIn f) ≡ base + registersOf t q = base-last t f (depthIn f) o in
     applied S s (h .fit) (h .runs) demanded (effectOf g (decodedAt t (S .code) q p)) (effect-suits t (S .code) q p g)
-    (effect-holds S (demanded .long) (readable-back (demanded .reads)) (s .kinds) (s .words) q base p hq
-    (live t (S .kinds) (baseOf t f (depthIn f)) base (registersOf t q) (s .kinds) (s .words) (h .fit .valid) end) hp)
+    (effect-holds S f (demanded .long) (readable-back (demanded .reads)) (s .kinds) (s .words) q base p hq
+    (live t (S .kinds) f (baseOf t f (depthIn f)) base (registersOf t q) (s .kinds) (s .words) (h .fit .valid) end) hp)
     (effect-tells g (decodedAt t (S .code) q p) (decoded-good S demanded q p hq hp))
     (named-few g (decodedAt t (S .code) q p))
 

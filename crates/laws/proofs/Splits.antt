@@ -114,17 +114,18 @@ module _ (S : Storage) where
   Stands (halted n c t) = Halts n × (framesSize ≤ length (t .frames) → markIn (t .frames) ≡ n)
   Stands (broke c t) = (markIn (t .frames) ≡ 70) × (stepOf S t ≡ fault t)
 
-  pub stopped : (s : State) (n : ℕ) (t : State) → MarkedAs n s t → Halts n → framesSize ≤ length (t .frames) → markIn (t .frames) ≡ n
-  stopped s n t m halts l =
+  pub stopped : (n : ℕ) (t : State) → MarkedAs n t → Halts n → framesSize ≤ length (t .frames) → markIn (t .frames) ≡ n
+  stopped n t m halts l =
       let e = m .same in
-      let h : length (t .frames) ≡ length (s .frames) = ap (λ (x : State). length (x .frames)) e ∙ mark-length (s .frames) n (m .operand) in
-      ap (λ (x : State). markIn (x .frames)) e ∙ mark-mark (s .frames) n (m .operand) (omega arith) (halts-small n halts)
+      let f = m .before .frames in
+      let h : length (t .frames) ≡ length f = ap (λ (x : State). length (x .frames)) e ∙ mark-length f n (m .operand) in
+      ap (λ (x : State). markIn (x .frames)) e ∙ mark-mark f n (m .operand) (omega arith) (halts-small n halts)
 
   stands-turn :
       (s : State) → markIn (s .frames) ≡ 70 → (x : Turn) → stepOf S s ≡ x → Marks s x → (done : ℕ) (g : State → Ran)
       → ((t : State) → markIn (t .frames) ≡ 70 → Stands (g t)) → Stands (turned x done g)
   stands-turn s m (on t) e k done g h = h t (k ∙ m)
-  stands-turn s m (stop n t) e k done g h = (k .1, λ l. stopped s n t (k .0) (k .1) l)
+  stands-turn s m (stop n t) e k done g h = (k .1, λ l. stopped n t (k .0) (k .1) l)
   stands-turn s m (fault t) e k done g h = (ap (λ (x : State). markIn (x .frames)) k ∙ m, ap (stepOf S) k ∙ e)
 
   stands : (left done : ℕ) (s : State) → markIn (s .frames) ≡ 70 → Stands (ranFrom left done s)

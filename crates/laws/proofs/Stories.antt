@@ -20,7 +20,8 @@ use Rattle.laws.specs.Statements.{Steps}
 use Rattle.laws.specs.Passes.{LoopAt, Controls, Unchanged, numberIn, visits, Comes, here, later, beginsPass, Reached, firstPass, laterPass, KeptUntil, Story, leavesLoop, makesPass, Behind, Returning, Keeping}
 use Rattle.laws.specs.Chunks as chunks
 use Rattle.laws.specs.Chunks.{isPast, Chunks, NotZero, Turns, jumpsOn, goesBehind, AnyEdition, SameStory, OneStory}
-use Rattle.laws.proofs.Steps.{Running, Stays}
+use Rattle.laws.proofs.Fitting.{Running}
+use Rattle.laws.proofs.Steps.{Stays}
 use Rattle.laws.proofs.Runs.{step-stays}
 use Rattle.laws.proofs.Listing.{listed}
 

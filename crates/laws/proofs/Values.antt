@@ -4,7 +4,6 @@ use mathlib.Core.Path.{_≡_, refl}
 use mathlib.Core.Bool.{Bool, true, false, cond, Bool·beq}
 use mathlib.Core.List.{List}
 use lib.ListN.{getD}
-use borrow.Author.Tests.{lt-ltb}
 use Rattle.choices.proofs.Choices.{cond-cases}
 use Rattle.storage.specs.Layout.{Storage, longEnough}
 use Rattle.storage.specs.Fields.{prototypesOf, registersOf, instructionsOf}
@@ -32,48 +31,44 @@ use Rattle.laws.specs.Holds.{Holds}
 use Rattle.laws.proofs.Constants.{constant-fits}
 use Rattle.laws.proofs.Operators.{stored-holds, prep-holds, loop-holds, negate-plain, bit-not-plain, binary-plain}
 
--- ---- values that are always there
+-- ---- a value that is always there
 
-boolean-fits : (table kinds : List ℕ) (b : Bool) → valueFits table kinds 1 (cond b 1 0) ≡ true
+boolean-fits : (table kinds frames : List ℕ) (b : Bool) → valueFits table kinds frames 1 (cond b 1 0) ≡ true
 unfolding valueFits isValue
-boolean-fits table kinds true = refl
-boolean-fits table kinds false = refl
-
-function-fits : (table kinds : List ℕ) (q : ℕ) → q < prototypesOf table → valueFits table kinds 5 q ≡ true
-unfolding valueFits isValue
-function-fits table kinds q h = rw (lt-ltb q (prototypesOf table) h)
+boolean-fits table kinds frames true = refl
+boolean-fits table kinds frames false = refl
 
 -- ---- effects
 
-module _ (S : Storage) where
+module _ (S : Storage) (f : List ℕ) where
   -- what an operator takes a value for
   abbrev figured : Value → Value
   figured v = figuredOf (S .words) (S .texts) v
 
   -- of a kind and a word that fit
-  module _ (kind word : ℕ) (fits : valueFits (S .table) (S .kinds) kind word ≡ true) where
-    unary-holds : (u : Unary) (dest : ℕ) → Holds S (unaryEffect (S .words) (S .texts) u dest kind word)
+  module _ (kind word : ℕ) (fits : valueFits (S .table) (S .kinds) f kind word ≡ true) where
+    unary-holds : (u : Unary) (dest : ℕ) → Holds S f (unaryEffect (S .words) (S .texts) u dest kind word)
     unfolding unaryEffect
     unary-holds unary.Move dest = fits
-    unary-holds unary.Not dest = stored-holds S dest _ (Is (notOf (valueOf kind word))) tt
-    unary-holds unary.Minus dest = stored-holds S dest _ (negateOf (figured (valueOf kind word))) (negate-plain (figured (valueOf kind word)))
-    unary-holds unary.BitNot dest = stored-holds S dest _ (bitNotOf (figured (valueOf kind word))) (bit-not-plain (figured (valueOf kind word)))
+    unary-holds unary.Not dest = stored-holds S f dest _ (Is (notOf (valueOf kind word))) tt
+    unary-holds unary.Minus dest = stored-holds S f dest _ (negateOf (figured (valueOf kind word))) (negate-plain (figured (valueOf kind word)))
+    unary-holds unary.BitNot dest = stored-holds S f dest _ (bitNotOf (figured (valueOf kind word))) (bit-not-plain (figured (valueOf kind word)))
 
-    test-set-holds : (dest : ℕ) (byte : Bool) → Holds S (testSetEffect dest byte kind word)
+    test-set-holds : (dest : ℕ) (byte : Bool) → Holds S f (testSetEffect dest byte kind word)
     unfolding testSetEffect
-    test-set-holds dest byte = cond-cases (Holds S) (Bool·beq (truth (valueOf kind word)) byte) _ _ (λ e. tt) (λ e. fits)
+    test-set-holds dest byte = cond-cases (Holds S f) (Bool·beq (truth (valueOf kind word)) byte) _ _ (λ e. tt) (λ e. fits)
 
   -- of those that put nothing into a register
-  skip-holds : (b byte : Bool) → Holds S (skipIf b byte)
+  skip-holds : (b byte : Bool) → Holds S f (skipIf b byte)
   unfolding skipIf
   skip-holds b byte = tt
 
-  decided-holds : (byte : Bool) (c : Compared) → Holds S (decided byte c)
+  decided-holds : (byte : Bool) (c : Compared) → Holds S f (decided byte c)
   unfolding decided
   decided-holds byte (compared.Decided b) = skip-holds b byte
   decided-holds byte (compared.Raises e named) = tt
 
-  compare-holds : (words texts : List ℕ) (c : Compare) (byte : Bool) (a b : Value) → Holds S (compareEffect words texts c byte a b)
+  compare-holds : (words texts : List ℕ) (c : Compare) (byte : Bool) (a b : Value) → Holds S f (compareEffect words texts c byte a b)
   unfolding compareEffect
   compare-holds words texts compare.Eq byte a b = skip-holds (isEqualOf words texts a b) byte
   compare-holds words texts compare.Less byte a b = decided-holds byte (lessThanOf words texts a b)
@@ -83,40 +78,43 @@ module _ (S : Storage) where
 
   module _
       (read : readsBack S ≡ true) (k w : List ℕ) (q base : ℕ) (there : q < prototypesOf (S .table))
-      (fits : (r : ℕ) → r < registersOf (S .table) q → registerFits (S .table) (S .kinds) k w (base + r) ≡ true) where
+      (fits : (r : ℕ) → r < registersOf (S .table) q → registerFits (S .table) (S .kinds) f k w (base + r) ≡ true) where
     abbrev here : Sight
     here = sight (S .table) (S .kinds) (S .words) (S .texts) k w q base
 
-    register-fits : (r : ℕ) → r < registersOf (S .table) q → valueFits (S .table) (S .kinds) (getD k (base + r) 0) (getD w (base + r) 0) ≡ true
+    register-fits : (r : ℕ) → r < registersOf (S .table) q → valueFits (S .table) (S .kinds) f (getD k (base + r) 0) (getD w (base + r) 0) ≡ true
     unfolding registerFits
     register-fits r h = fits r h
 
-    pub within-holds : (p : ℕ) (i : Instruction) → Within (limitsOf (S .table) q) p i → Holds S (effectOf here i)
+    pub within-holds : (p : ℕ) (i : Instruction) → Within (limitsOf (S .table) q) p i → Holds S f (effectOf here i)
     unfolding effectOf
     within-holds p (instruction.Unary u dest source) h = unary-holds _ _ (register-fits source (h .1 .0)) u dest
-    within-holds p (instruction.LoadConstant dest c) h = constant-fits S read q c there (h .1 .0)
-    within-holds p (instruction.LoadBool dest b n) h = boolean-fits (S .table) (S .kinds) b
+    within-holds p (instruction.LoadConstant dest c) h = constant-fits S f read q c there (h .1 .0)
+    within-holds p (instruction.LoadBool dest b n) h = boolean-fits (S .table) (S .kinds) f b
     within-holds p (instruction.LoadNil dest n) h = tt
-    within-holds p (instruction.Call f a r) h = tt
+    within-holds p (instruction.Call function a r) h = tt
     within-holds p (instruction.Return s n) h = tt
     within-holds p (instruction.Jump t) h = tt
     within-holds p (instruction.Test r byte) h = skip-holds (truth (registerValue here r)) byte
     within-holds p (instruction.TestSet dest source byte) h = test-set-holds _ _ (register-fits source (h .1 .0)) dest byte
-    within-holds p (instruction.Closure dest f) h = function-fits (S .table) (S .kinds) f (h .1 .0)
-    within-holds p (instruction.NumericForPrep b t) h = prep-holds S (registerValue here b) (registerValue here (b + 2)) b t
+    within-holds p (instruction.Closure dest n) h = tt
+    within-holds p (instruction.NumericForPrep b t) h = prep-holds S f (registerValue here b) (registerValue here (b + 2)) b t
     within-holds p (instruction.NumericForLoop b t) h =
-        loop-holds S (registerValue here b) (registerValue here (b + 1)) (registerValue here (b + 2)) b t
+        loop-holds S f (registerValue here b) (registerValue here (b + 1)) (registerValue here (b + 2)) b t
     within-holds p (instruction.Compare c byte l r) h =
         compare-holds (S .words) (S .texts) c byte (operandValue here l) (operandValue here r)
     within-holds p (instruction.Binary o dest l r) h =
-        stored-holds S dest _ (binaryAnswer o (figured (operandValue here l)) (figured (operandValue here r)))
+        stored-holds S f dest _ (binaryAnswer o (figured (operandValue here l)) (figured (operandValue here r)))
         (binary-plain o (figured (operandValue here l)) (figured (operandValue here r)))
     within-holds p (instruction.Bad n) h = tt
+    within-holds p (instruction.GetUpValue dest u) h = tt
+    within-holds p (instruction.SetUpValue u source) h = tt
+    within-holds p (instruction.Close from t) h = tt
 
 -- an instruction of this image, of a machine whose live registers hold values of it
-pub effect-holds : (S : Storage) → longEnough S ≡ true → readsBack S ≡ true → (k w : List ℕ) (q base p : ℕ) → q < prototypesOf (S .table)
-    → ((r : ℕ) → r < registersOf (S .table) q → registerFits (S .table) (S .kinds) k w (base + r) ≡ true)
+pub effect-holds : (S : Storage) (f : List ℕ) → longEnough S ≡ true → readsBack S ≡ true → (k w : List ℕ) (q base p : ℕ) → q < prototypesOf (S .table)
+    → ((r : ℕ) → r < registersOf (S .table) q → registerFits (S .table) (S .kinds) f k w (base + r) ≡ true)
     → p < instructionsOf (S .table) q
-    → Holds S (effectOf (sight (S .table) (S .kinds) (S .words) (S .texts) k w q base) (decodedAt (S .table) (S .code) q p))
-effect-holds S long read k w q base p there fits h =
-    within-holds S read k w q base there fits p (decodedAt (S .table) (S .code) q p) (decoded-within (S .table) (S .code) q p)
+    → Holds S f (effectOf (sight (S .table) (S .kinds) (S .words) (S .texts) k w q base) (decodedAt (S .table) (S .code) q p))
+effect-holds S f long read k w q base p there fits h =
+    within-holds S f read k w q base there fits p (decodedAt (S .table) (S .code) q p) (decoded-within (S .table) (S .code) q p)

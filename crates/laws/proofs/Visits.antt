@@ -27,7 +27,7 @@ use Rattle.checker.specs.declared.Instruction.the-variants as instruction
 use Rattle.effects.specs.Effects.{valueAt, stored, prepEffect, loopWith, loopEffect, effectOf}
 use Rattle.effects.specs.declared.Effect.the-variants.{Set, Loop}
 use Rattle.effects.specs.declared.Go.the-variants.{Next, To}
-use Rattle.state.specs.Frames.{depthIn, prototypeIn, instructionIn, baseOf, instructionWith}
+use Rattle.state.specs.Frames.{depthIn, prototypeIn, instructionIn, closureIn, baseOf, instructionWith}
 use Rattle.state.specs.Record.{innermost, following}
 use Rattle.state.specs.States.{State, state}
 use Rattle.state.specs.declared.Activation.{Activation}
@@ -42,7 +42,7 @@ use Rattle.laws.specs.Chunks.{isPast, Turns, jumpsOn, goesBehind}
 use Rattle.laws.proofs.Frames.{there-prototype, there-instruction}
 use Rattle.laws.proofs.Bounds.{few-instructions}
 use Rattle.laws.proofs.Moves.{following-small}
-use Rattle.laws.proofs.Steps.{Running}
+use Rattle.laws.proofs.Fitting.{Running}
 
 -- ---- an integer in a register is an i64, and an i64 that is stored is held
 
@@ -95,7 +95,13 @@ module _ (S : Storage) (L : LoopAt) where
 
   abbrev standing : State → ℕ → Activation
   standing u p =
-      record { depth = L .depth; prototype = L .prototype; instruction = p; base = baseOf t (u .frames) (L .depth - 1) }
+      record {
+        depth = L .depth;
+        prototype = L .prototype;
+        instruction = p;
+        base = baseOf t (u .frames) (L .depth - 1);
+        closure = closureIn (u .frames) (L .depth - 1);
+      }
 
   pub record StandsAt (u : State) (p : ℕ) : Type 0 where
     pub running : Running S u

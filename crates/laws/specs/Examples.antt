@@ -3,14 +3,13 @@ use mathlib.Core.List.{List, [], _∷_}
 use Prim.Native.Nat.{ℕ}
 use Rattle.image.specs.Instruction.{packed}
 use Rattle.image.specs.Frames.{F, opens, code, ends}
-use Rattle.storage.specs.Layout.{Storage, blankStorage, contentsOf, laidIn}
+use Rattle.storage.specs.Layout.{Storage, blankStorage, laidIn}
 use Rattle.state.specs.Frames.{markWith, depthWith}
 use Rattle.state.specs.States.{State, state, blankState}
 
 -- what an image of n prototypes with these frames reads to, in slices of the published sizes that held zeros
 abbrev pub readFrom : ℕ → List F → Storage
-readFrom n frames =
-    laidIn (contentsOf n frames) blankStorage
+readFrom n frames = laidIn n frames blankStorage
 
 -- running at instruction 0 of prototype 0, as a start would leave it
 abbrev pub running : State

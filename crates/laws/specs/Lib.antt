@@ -7,3 +7,4 @@ pub mod Passes
 pub mod Chunks
 pub mod Needed
 pub mod Operands
+pub mod Sharing

@@ -13,7 +13,7 @@ use Rattle.constant.specs.declared.Value.the-variants.{Integer}
 use Rattle.checker.specs.declared.Instruction.the-variants as instruction
 use Rattle.effects.specs.Effects.{valueAt}
 use Rattle.effects.specs.declared.Effect.{Effect}
-use Rattle.effects.specs.declared.Effect.the-variants.{Set, Goto, Clear, Loop, Enter, Leave, Fail, Fault}
+use Rattle.effects.specs.declared.Effect.the-variants.{Set, Goto, Clear, Loop, Enter, Leave, Fail, Fault, Get, Put, Close, Capture}
 use Rattle.state.specs.Frames.{depthIn, prototypeIn, instructionIn, baseOf}
 use Rattle.state.specs.Record.{innermost}
 use Rattle.state.specs.States.{State}
@@ -91,6 +91,10 @@ opensPass (Enter function arguments) = false
 opensPass (Leave start n) = false
 opensPass (Fail n named) = false
 opensPass Fault = false
+opensPass (Get dest upvalue) = false
+opensPass (Put upvalue source) = false
+opensPass (Close from target) = false
+opensPass (Capture dest q) = false
 
 -- whether the next instruction of s begins one
 unfoldable pub beginsPass : Storage → State → Bool

@@ -6,7 +6,7 @@ use Prim.Native.Nat.{ℕ, _≤_}
 use lib.ListN.{length}
 use Rattle.image.specs.declared.Judged.the-variants as judged
 use Rattle.image.specs.Frames.{framesOf}
-use Rattle.storage.specs.Layout.{Storage, contentsOf, laid, laidIn, longEnough}
+use Rattle.storage.specs.Layout.{Storage, laid, laidIn, longEnough}
 use Rattle.reader.specs.Reading.{Read}
 use Rattle.writer.specs.Writing.{Written}
 use Rattle.writer.specs.declared.Wrote.the-variants.{Bytes}
@@ -25,7 +25,7 @@ sessionImage =
 
 -- what reading it leaves in lent storage
 unfoldable pub sessionIn : Storage → Storage
-sessionIn lent = laidIn (contentsOf 1 (framesOf sessionImage)) lent
+sessionIn lent = laidIn 1 (framesOf sessionImage) lent
 
 -- "runs it without arguments": in any storage and state that are long enough it is started
 abbrev pub SessionStarts : Type 0

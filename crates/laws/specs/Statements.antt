@@ -35,7 +35,7 @@ AtMost n [] = Unit {0}
 AtMost n (x ∷ xs) = (x ≤ n) × AtMost n xs
 
 abbrev pub Published : Type 0
-Published = (sizes ≡ 133 ∷ 5041 ∷ 8448 ∷ 32768 ∷ 34 ∷ 2308 ∷ []) × AtMost 1048576 sizes
+Published = (sizes ≡ 421 ∷ 5041 ∷ 8448 ∷ 32768 ∷ 754 ∷ 2436 ∷ []) × AtMost 1048576 sizes
 
 -- ---- demand 2: "An accepted image, written back, gives the same bytes."
 
@@ -83,7 +83,7 @@ StaysFit =
 
 -- ---- how a run ends: "Numbers the machine answers"
 
--- "30-44 operator error", "50, 51, 52"; "45 for a zero integer divisor in IDiv, 46 in Mod"
+-- "30-44 operator error", "50, 51, 52"; "45 for a zero integer divisor in IDiv, 46 in Mod"; "53 no closure entry, then 54 too few cells"
 abbrev pub LuaError : ℕ → Type 0
 LuaError n = isLuaError n ≡ true
 

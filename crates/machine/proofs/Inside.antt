@@ -8,7 +8,7 @@ use mathlib.Core.List.{List, [], _∷_}
 use lib.ListN.{length, getD}
 use lib.Dec.{eqb, ltb}
 use borrow.Author.Tests.{eq-eqb, eqb-true, eqb-false, ltb-true}
-use Rattle.image.specs.Frames.{F, opens, const, str, code, shape}
+use Rattle.image.specs.Frames.{F, opens, const, str, code, desc, shape}
 use Rattle.image.specs.declared.Counts.{Counts}
 use Rattle.image.specs.declared.Step.the-variants.{On, Done}
 use Rattle.choices.proofs.Choices.{by-bool, cond-cases, and-right, and-left}
@@ -20,7 +20,7 @@ use Rattle.storage.specs.Stored.{imageIn, readsBack}
 use Rattle.storage.specs.Cursor.{past}
 use Rattle.storage.specs.declared.Tops.{Tops}
 use Rattle.storage.proofs.Places.{at-first, at-within}
-use Rattle.storage.proofs.Runs.{Runs, last, next, Told, opened, word, text, instruction, ended, told-as}
+use Rattle.storage.proofs.Runs.{Runs, last, next, Told, opened, word, text, instruction, ended, described, told-as}
 use Rattle.storage.proofs.Lies.{lies-rest, tops, Lie, lies-opened}
 use Rattle.storage.proofs.Seen.{Constant, end-seen, word-seen, text-seen}
 use Rattle.storage.proofs.Reading.{reads-frames}
@@ -49,9 +49,9 @@ module _ (S : Storage) (q i : ℕ) (string : getD (S .kinds) i 0 ≡ 4) (there :
   abbrev Inside : Type 0
   Inside = (getD (S .words) i 0 / 65536 + getD (S .words) i 0 % 65536 ≤ length (S .texts)) × (getD (S .words) i 0 % 65536 ≤ 64)
 
-  text-here : (p c k x : ℕ) (b : List ℕ) (fs : List F) → Lie S p c k x (str b ∷ fs) → x ≤ length (S .texts) → x + length b ≤ length (S .texts)
+  text-here : (p c k x d : ℕ) (b : List ℕ) (fs : List F) → Lie S p c k x d (str b ∷ fs) → x ≤ length (S .texts) → x + length b ≤ length (S .texts)
   unfolding textsAll textsOf
-  text-here p c k x b fs l h = at-within (S .texts) x b (at-first (S .texts) x b _ (l .texts)) h
+  text-here p c k x d b fs l h = at-within (S .texts) x b (at-first (S .texts) x b _ (l .texts)) h
 
   here : (t : Tops) (b : List ℕ) → Constant t S 4 (t .texts * 65536 + length b) → length b ≤ 64 → t .texts + length b ≤ length (S .texts) → t .consts ≡ i → Inside
   here t b e h a g =
@@ -71,34 +71,38 @@ module _ (S : Storage) (q i : ℕ) (string : getD (S .kinds) i 0 ≡ 4) (there :
 
   inside-next :
       {st u : Counts} {f : F} {fs : List F} → Told st f (On u) → Runs u q fs → Said f
-      → ((c k x : ℕ) → c ≤ i → x ≤ length (S .texts) → Lie S (u .protos) c k x fs → Inside) → (c k x : ℕ) → c ≤ i → x ≤ length (S .texts)
-      → Lie S (st .protos) c k x (f ∷ fs)
+      → ((c k x d : ℕ) → c ≤ i → x ≤ length (S .texts) → Lie S (u .protos) c k x d fs → Inside) → (c k x d : ℕ) → c ≤ i → x ≤ length (S .texts)
+      → Lie S (st .protos) c k x d (f ∷ fs)
       → Inside
   unfolding past shape
-  inside-next {st} (opened {r} {p} a) h y ih c k x ci xt l =
-      ih c k x ci xt (lies-opened S (st .protos) c k x r p _ l)
-  inside-next {st} (word {k = tag} {w} a b) h y ih c k x ci xt l =
-      let t = tops (st .protos) c k x in
+  inside-next {st} (opened {r} {p} a) h y ih c k x d ci xt l =
+      ih c k x 0 ci xt (lies-opened S (st .protos) c k x d r p _ l)
+  inside-next {st} (word {k = tag} {w} a b) h y ih c k x d ci xt l =
+      let t = tops (st .protos) c k x d in
       at-or-on c ci (no-string t tag w (word-seen t S h tag w l) (y .0))
-      (λ n. ih (c + 1) k x n xt (lies-rest t (const tag w) _ S l))
-  inside-next {st} (text {l = b} a d) h y ih c k x ci xt l =
-      let t = tops (st .protos) c k x in
-      let room = text-here (st .protos) c k x b _ l xt in
+      (λ n. ih (c + 1) k x d n xt (lies-rest t (const tag w) _ S l))
+  inside-next {st} (text {l = b} a e) h y ih c k x d ci xt l =
+      let t = tops (st .protos) c k x d in
+      let room = text-here (st .protos) c k x d b _ l xt in
       at-or-on c ci (here t b (text-seen t S h b l) (y .0) room)
-      (λ n. ih (c + 1) k (x + length b) n room (lies-rest t (str b) _ S l))
-  inside-next {st} (instruction {w} a) h y ih c k x ci xt l = ih c (k + 1) x ci xt (lies-rest (tops (st .protos) c k x) (code w) _ S l)
+      (λ n. ih (c + 1) k (x + length b) d n room (lies-rest t (str b) _ S l))
+  inside-next {st} (instruction {w} a) h y ih c k x d ci xt l =
+      ih c (k + 1) x d ci xt (lies-rest (tops (st .protos) c k x d) (code w) _ S l)
+  inside-next {st} (described {k = kind} {n} a b e g) h y ih c k x d ci xt l =
+      ih c k x (d + 1) ci xt (lies-rest (tops (st .protos) c k x d) (desc kind n) _ S l)
 
   inside-last :
-      {st : Counts} {f : F} → Told st f Done → st .protos ≡ q → (c k x : ℕ) → c ≤ i → Lie S (st .protos) c k x (f ∷ []) → Inside
-  inside-last {st} (ended {m} e) g c k x ci l =
-      let s = rw g at (end-seen (tops (st .protos) c k x) S m [] l .consts) in
+      {st : Counts} {f : F} → Told st f Done → st .protos ≡ q → (c k x d : ℕ) → c ≤ i → Lie S (st .protos) c k x d (f ∷ []) → Inside
+  inside-last {st} (ended {m} e) g c k x d ci l =
+      let s = rw g at (end-seen (tops (st .protos) c k x d) S m [] l .consts) in
       absurd (omega arith)
 
   inside-from :
-      {st : Counts} {fs : List F} → Runs st q fs → AllSaid fs → (c k x : ℕ) → c ≤ i → x ≤ length (S .texts) → Lie S (st .protos) c k x fs → Inside
-  inside-from (last r e) ys c k x ci xt l = inside-last (told-as r) e c k x ci l
-  inside-from (next r h) (more y ys) c k x ci xt l =
-      inside-next (told-as r) h y (λ c k x ci xt l. inside-from h ys c k x ci xt l) c k x ci xt l
+      {st : Counts} {fs : List F} → Runs st q fs → AllSaid fs → (c k x d : ℕ) → c ≤ i → x ≤ length (S .texts) → Lie S (st .protos) c k x d fs
+      → Inside
+  inside-from (last r e) ys c k x d ci xt l = inside-last (told-as r) e c k x d ci l
+  inside-from (next r h) (more y ys) c k x d ci xt l =
+      inside-next (told-as r) h y (λ c k x d ci xt l. inside-from h ys c k x d ci xt l) c k x d ci xt l
 
 -- ---- what is answered
 
@@ -113,7 +117,7 @@ module _ (S : Storage) (word : ℕ) where
       let below = ltb word (firstConstant (S .table) (prototypesOf (S .table))) in
       let kind = eqb (getD (S .kinds) word 0) 4 in
       inside-from S (prototypesOf (S .table)) word (eqb-true _ _ (and-right below kind s)) (ltb-true _ _ (and-left below kind s)) (f .runs)
-      (accepted-said (imageIn S) (r .count) (r .accepted)) 0 0 0 (omega arith) (omega arith) (f .lies)
+      (accepted-said (imageIn S) (r .count) (r .accepted)) 0 0 0 0 (omega arith) (omega arith) (f .lies)
 
   pub string-short : readsBack S ≡ true → isString S word ≡ true → getD (S .words) word 0 % 65536 ≤ 64
   string-short e s = string-inside e s .1

@@ -24,10 +24,10 @@ use Rattle.machine.specs.declared.Values.{Values}
 use Rattle.machine.specs.declared.Span.{Span}
 use Rattle.machine.specs.declared.Span.the-variants as span
 
--- ---- the version: 10,000 times its first number, 100 times its second, and its third; this is 0.2.0, which the header has as DM_VERSION
+-- ---- the version: 10,000 times its first number, 100 times its second, and its third; this is 0.3.0, which the header has as DM_VERSION
 
 abbrev pub version : ℕ
-version = 200
+version = 300
 
 -- ---- the answer
 

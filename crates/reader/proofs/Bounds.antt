@@ -6,8 +6,8 @@ use mathlib.Core.List.{List, [], _∷_}
 use lib.ListN.{length, length-append}
 use lib.Dec.{leb, ltb, eqb}
 use borrow.Author.Tests.{ltb-true, leb-true}
-use Rattle.image.specs.Frames.{F, opens, const, str, code, ends, bad, shape, framesOf}
-use Rattle.image.specs.Judge.{frameStep, constStep, codeStep, start, judgeOf}
+use Rattle.image.specs.Frames.{F, opens, const, str, code, ends, bad, desc, shape, framesOf}
+use Rattle.image.specs.Judge.{frameStep, constStep, codeStep, descStep, start, judgeOf}
 use Rattle.image.specs.Write.{written}
 use Rattle.image.specs.declared.Counts.{Counts}
 use Rattle.image.specs.declared.Step.{Step}
@@ -28,28 +28,35 @@ use Rattle.reader.proofs.Parts.{word-kind}
 record Light (f : F) : Type 0 where
   codes : 13 * length (codesOf f) ≤ lineSize f
   texts : 2 * length (textsOf f) ≤ lineSize f
+  some : 1 ≤ lineSize f
 
 light : (f : F) → Light f
 unfolding codesOf textsOf lineSize
-light (opens r p) = record { codes = omega arith; texts = omega arith }
-light (const k w) = record { codes = omega arith; texts = omega arith }
-light (str l) = record { codes = omega arith; texts = omega arith }
-light (code w) = record { codes = omega arith; texts = omega arith }
-light (ends n) = record { codes = omega arith; texts = omega arith }
-light (bad k) = record { codes = omega arith; texts = omega arith }
+light (opens r p) = record { codes = omega arith; texts = omega arith; some = omega arith }
+light (const k w) = record { codes = omega arith; texts = omega arith; some = omega arith }
+light (str l) = record { codes = omega arith; texts = omega arith; some = omega arith }
+light (code w) = record { codes = omega arith; texts = omega arith; some = omega arith }
+light (ends n) = record { codes = omega arith; texts = omega arith; some = omega arith }
+light (bad k) = record { codes = omega arith; texts = omega arith; some = omega arith }
+light (desc k n) = record { codes = omega arith; texts = omega arith; some = omega arith }
 
 record LightAll (fs : List F) : Type 0 where
   codes : 13 * length (codesAll fs) ≤ length (written fs)
   texts : 2 * length (textsAll fs) ≤ length (written fs)
+  frames : length fs ≤ length (written fs)
 
 all-light : (fs : List F) → LightAll fs
 unfolding codesAll textsAll
-all-light [] = record { codes = omega arith; texts = omega arith }
+all-light [] = record { codes = omega arith; texts = omega arith; frames = omega arith }
 all-light (f ∷ fs) =
     let h = light f in
     let r = all-light fs in
     let s = size-line f fs in
-    record { codes = omega (arith, length-append (codesOf f) (codesAll fs)); texts = omega (arith, length-append (textsOf f) (textsAll fs)) }
+    record {
+      codes = omega (arith, length-append (codesOf f) (codesAll fs));
+      texts = omega (arith, length-append (textsOf f) (textsAll fs));
+      frames = omega (arith, h .some, r .frames);
+    }
 
 -- ---- by the counts
 
@@ -90,6 +97,18 @@ module _ (st : Counts) (o : Ok st) where
       (λ d. record { ok = (omega arith, omega arith); kinds = omega arith; entries = λ c k. omega (arith, none c k) }) (λ d. tt))
       (λ a. tt)
 
+  desc-cover : (f : F) → length (kindsOf f) ≡ 0 → ((c k : ℕ) → length (entryOf c k f) ≡ 0) → Cover st f (descStep st)
+  unfolding descStep
+  desc-cover f zero' none =
+      cond-cases (Cover st f) (leb 1 (st .protos)) _ _
+      (λ a. cond-cases (Cover st f) (eqb (st .consts) 0) _ _
+      (λ b. cond-cases (Cover st f) (eqb (st .codes) 0) _ _
+      (λ d. cond-cases (Cover st f) (ltb (st .descs) 8) _ _
+      (λ e. record { ok = (omega arith, omega arith); kinds = omega arith; entries = λ c k. omega (arith, none c k) }) (λ e. tt))
+      (λ d. tt))
+      (λ b. tt))
+      (λ a. tt)
+
   covers : (f : F) → Cover st f (frameStep st (shape f))
   unfolding frameStep shape kindsOf entryOf
   covers (opens r p) =
@@ -103,6 +122,7 @@ module _ (st : Counts) (o : Ok st) where
   covers (code w) = code-cover (code w) refl (λ c k. refl)
   covers (ends n) = cond-cases (Cover st (ends n)) (eqb n (st .protos)) _ _ (λ d. (refl, λ c k. refl)) (λ d. tt)
   covers (bad k) = tt
+  covers (desc k n) = desc-cover (desc k n) refl (λ c k. refl)
 
 -- what an accepted run from these counts still adds
 record Rest (st : Counts) (fs : List F) : Type 0 where
@@ -157,4 +177,5 @@ sizes-suffice s q e =
       kinds = omega (arith, r .kinds);
       words = omega (arith, r .kinds, words-kinds fs 0);
       texts = omega (arith, b .texts, a .0, n);
+      frames = omega (arith, b .frames, a .0, n);
     }

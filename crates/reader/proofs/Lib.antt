@@ -5,4 +5,5 @@ pub mod JudgeLaws
 pub mod PutLaws
 pub mod Parts
 pub mod Bounds
+pub mod Described
 pub mod Contents

@@ -1,5 +1,5 @@
 -- Putting one frame: what the line says, what the enum's case says of the frame, and what the stores leave. Assumes nothing.
-use Prim.Native.Nat.{ℕ, suc, _+_, _-_, _*_, _≤_, _<_}
+use Prim.Native.Nat.{ℕ, suc, _+_, _-_, _*_, _/_, _≤_, _<_}
 use native.Mathlib.Omega.{arith}
 use native.Mathlib.Nat.{add-zero, sub-zero}
 use mathlib.Core.Path.{_≡_, refl, sym, ap, _∙_}
@@ -10,12 +10,13 @@ use lib.Seq.{sets, drop-cons, take-all}
 use lib.Dec.{leb, ltb, eqb}
 use borrow.Author.Tests.{leb-true}
 use Rattle.image.specs.Hex.{paired, bytesOf}
-use Rattle.image.specs.Frames.{F, opens, const, str, code, ends, bad, shape, frameOf, kindBytes, openBytes, wordBytesOf, constBytes, codeBytes, endBytes, payload, mostOf}
+use Rattle.image.specs.Frames.{F, opens, const, str, code, ends, bad, desc, shape, frameOf, kindBytes, openBytes, wordBytesOf, constBytes, codeBytes, endBytes, descBytes, payload, mostOf}
 use Rattle.image.specs.declared.Frame.{Frame}
-use Rattle.image.specs.declared.Frame.the-variants.{Open, Const, Str, Code, End, Bad}
+use Rattle.image.specs.declared.Frame.the-variants.{Open, Const, Str, Code, End, Bad, Desc}
 use Rattle.storage.specs.declared.Tops.{Tops}
-use Rattle.storage.specs.Layout.{entryOf, codesOf, kindsOf, wordsOf, textsOf}
-use Rattle.reader.specs.Steps.{FramePut}
+use Rattle.storage.specs.Fields.{descriptorsPlace}
+use Rattle.storage.specs.Layout.{entryOf, codesOf, kindsOf, wordsOf, textsOf, descriptorWord}
+use Rattle.reader.specs.Steps.{FramePut, descriptorPut, descPut, descTop}
 use Rattle.choices.proofs.Choices.{cond-cases}
 use Rattle.image.proofs.HexLaws.{bytes-length}
 
@@ -44,6 +45,10 @@ sets-four l l₁ l₂ l₃ l₄ i a b c d p q r s =
     let g : i + 3 ≡ suc (suc (suc i)) = omega arith in
     rw (s, r, q, p, add-zero i, e, f, g)
 
+pub sets-descriptor : (l l₁ l₂ : List ℕ) (q d w : ℕ) → l₁ ≡ set l (descriptorsPlace q + (1 + d)) w → l₂ ≡ set l₁ (descriptorsPlace q + 0) (d + 1)
+    → l₂ ≡ descriptorPut q d w l
+sets-descriptor l l₁ l₂ q d w e f = rw (f, e, add-zero (descriptorsPlace q))
+
 -- ---- what a line says of its string
 
 abbrev Told : List ℕ → F → Type 0
@@ -53,6 +58,7 @@ Told line (str l) = (paired line ≡ true) × ((2 ≤ length (bytesOf line)) × 
 Told line (code w) = Unit {0}
 Told line (ends n) = Unit {0}
 Told line (bad k) = Unit {0}
+Told line (desc k n) = Unit {0}
 
 module _ (line : List ℕ) (p : paired line ≡ true) where
   open-told : Told line (openBytes (bytesOf line))
@@ -91,6 +97,14 @@ module _ (line : List ℕ) (p : paired line ≡ true) where
   unfolding endBytes
   end-told = cond-cases (Told line) (eqb (length (bytesOf line)) 2) _ _ (λ m. tt) (λ m. tt)
 
+  desc-told : Told line (descBytes (bytesOf line))
+  unfolding descBytes
+  desc-told =
+      let B = bytesOf line in
+      cond-cases (Told line) (eqb (length B) 3) _ _
+      (λ h. cond-cases (Told line) (leb (getD B 1 0) 1) _ _ (λ m. tt) (λ m. tt))
+      (λ h. tt)
+
   kind-told : Told line (kindBytes (bytesOf line))
   unfolding kindBytes
   kind-told =
@@ -98,7 +112,8 @@ module _ (line : List ℕ) (p : paired line ≡ true) where
       cond-cases (Told line) (eqb k 0xa0) _ _ (λ a. open-told)
       (λ a. cond-cases (Told line) (eqb k 0xb0) _ _ (λ b. const-told)
       (λ b. cond-cases (Told line) (eqb k 0xc0) _ _ (λ c. code-told)
-      (λ c. cond-cases (Told line) (eqb k 0xe0) _ _ (λ d. end-told) (λ d. tt))))
+      (λ c. cond-cases (Told line) (eqb k 0xe0) _ _ (λ d. end-told)
+      (λ d. cond-cases (Told line) (eqb k 0xd1) _ _ (λ e. desc-told) (λ e. tt)))))
 
 told : (line : List ℕ) → Told line (frameOf line)
 unfolding frameOf
@@ -117,6 +132,7 @@ said (Str n) l = str l
 said (Code w) l = code w
 said (End n) l = ends n
 said (Bad k) l = bad k
+said (Desc k n) l = desc k n
 
 said-shape : (f : F) → f ≡ said (shape f) (textsOf f)
 unfolding shape textsOf
@@ -126,6 +142,7 @@ said-shape (str l) = refl
 said-shape (code w) = refl
 said-shape (ends n) = refl
 said-shape (bad k) = refl
+said-shape (desc k n) = refl
 
 pub from-shape : (f : F) (s : Frame) → shape f ≡ s → f ≡ said s (textsOf f)
 from-shape f s e = said-shape f ∙ ap (λ (u : Frame). said u (textsOf f)) e
@@ -160,49 +177,57 @@ str-line line n e = go (frameOf line) refl (told line) e
     go (code w) d t e = absurd (let z : _≡_ {A = ℕ} 0 1 = cc in omega arith)
     go (ends n) d t e = absurd (let z : _≡_ {A = ℕ} 0 1 = cc in omega arith)
     go (bad k) d t e = absurd (let z : _≡_ {A = ℕ} 0 1 = cc in omega arith)
+    go (desc k n) d t e = absurd (let z : _≡_ {A = ℕ} 0 1 = cc in omega arith)
 
 -- ---- what the stores leave, by the enum's case
 
 module _ (t : Tops) (l c k w x : List ℕ) where
   pub put-open : (r q : ℕ)
-      → FramePut t (record { entries = t .entries + 4; codes = t .codes; consts = t .consts; texts = t .texts }) (opens r q)
-      l (sets l (t .entries) (r ∷ q ∷ t .consts ∷ t .codes ∷ [])) c c k k w w x x
-  unfolding entryOf codesOf kindsOf wordsOf textsOf
+      → FramePut t (record { entries = t .entries + 4; codes = t .codes; consts = t .consts; texts = t .texts; descs = 0 }) (opens r q)
+      l (set (sets l (t .entries) (r ∷ q ∷ t .consts ∷ t .codes ∷ [])) (descriptorsPlace (t .entries / 4)) 0) c c k k w w x x
+  unfolding entryOf codesOf kindsOf wordsOf textsOf descPut descTop
   put-open r q =
-      record { topEntries = refl; topCodes = omega arith; topConsts = omega arith; topTexts = omega arith; table = refl; code = refl; kinds = refl; words = refl; texts = refl }
+      record { topEntries = refl; topCodes = omega arith; topConsts = omega arith; topTexts = omega arith; topDescs = refl; table = refl; code = refl; kinds = refl; words = refl; texts = refl }
 
   pub put-end : (n : ℕ)
-      → FramePut t (record { entries = t .entries + 4; codes = t .codes; consts = t .consts; texts = t .texts }) (ends n)
+      → FramePut t (record { entries = t .entries + 4; codes = t .codes; consts = t .consts; texts = t .texts; descs = t .descs }) (ends n)
       l (sets l (t .entries) (0 ∷ 0 ∷ t .consts ∷ t .codes ∷ [])) c c k k w w x x
-  unfolding entryOf codesOf kindsOf wordsOf textsOf
+  unfolding entryOf codesOf kindsOf wordsOf textsOf descPut descTop
   put-end n =
-      record { topEntries = refl; topCodes = omega arith; topConsts = omega arith; topTexts = omega arith; table = refl; code = refl; kinds = refl; words = refl; texts = refl }
+      record { topEntries = refl; topCodes = omega arith; topConsts = omega arith; topTexts = omega arith; topDescs = refl; table = refl; code = refl; kinds = refl; words = refl; texts = refl }
 
   pub put-const : (tag v : ℕ)
-      → FramePut t (record { entries = t .entries; codes = t .codes; consts = t .consts + 1; texts = t .texts }) (const tag v)
+      → FramePut t (record { entries = t .entries; codes = t .codes; consts = t .consts + 1; texts = t .texts; descs = t .descs }) (const tag v)
       l l c c k (set k (t .consts + 0) tag) w (set w (t .consts + 0) v) x x
-  unfolding entryOf codesOf kindsOf wordsOf textsOf
+  unfolding entryOf codesOf kindsOf wordsOf textsOf descPut descTop
   put-const tag v =
       rw (add-zero (t .consts))
-      (record { topEntries = omega arith; topCodes = omega arith; topConsts = refl; topTexts = omega arith; table = refl; code = refl; kinds = refl; words = refl; texts = refl })
+      (record { topEntries = omega arith; topCodes = omega arith; topConsts = refl; topTexts = omega arith; topDescs = refl; table = refl; code = refl; kinds = refl; words = refl; texts = refl })
 
   pub put-code : (v : ℕ)
-      → FramePut t (record { entries = t .entries; codes = t .codes + 1; consts = t .consts; texts = t .texts }) (code v)
+      → FramePut t (record { entries = t .entries; codes = t .codes + 1; consts = t .consts; texts = t .texts; descs = t .descs }) (code v)
       l l c (set c (t .codes + 0) v) k k w w x x
-  unfolding entryOf codesOf kindsOf wordsOf textsOf
+  unfolding entryOf codesOf kindsOf wordsOf textsOf descPut descTop
   put-code v =
       rw (add-zero (t .codes))
-      (record { topEntries = omega arith; topCodes = refl; topConsts = omega arith; topTexts = omega arith; table = refl; code = refl; kinds = refl; words = refl; texts = refl })
+      (record { topEntries = omega arith; topCodes = refl; topConsts = omega arith; topTexts = omega arith; topDescs = refl; table = refl; code = refl; kinds = refl; words = refl; texts = refl })
 
   pub put-bad : (n : ℕ) → FramePut t t (bad n) l l c c k k w w x x
-  unfolding entryOf codesOf kindsOf wordsOf textsOf
+  unfolding entryOf codesOf kindsOf wordsOf textsOf descPut descTop
   put-bad n =
-      record { topEntries = omega arith; topCodes = omega arith; topConsts = omega arith; topTexts = omega arith; table = refl; code = refl; kinds = refl; words = refl; texts = refl }
+      record { topEntries = omega arith; topCodes = omega arith; topConsts = omega arith; topTexts = omega arith; topDescs = refl; table = refl; code = refl; kinds = refl; words = refl; texts = refl }
 
   pub put-str : (s : List ℕ) (n : ℕ) → length s ≡ n
-      → FramePut t (record { entries = t .entries; codes = t .codes; consts = t .consts + 1; texts = t .texts + n }) (str s)
+      → FramePut t (record { entries = t .entries; codes = t .codes; consts = t .consts + 1; texts = t .texts + n; descs = t .descs }) (str s)
       l l c c k (set k (t .consts + 0) 4) w (set w (t .consts + 0) (t .texts * 65536 + n)) x (sets x (t .texts) s)
-  unfolding entryOf codesOf kindsOf wordsOf textsOf
+  unfolding entryOf codesOf kindsOf wordsOf textsOf descPut descTop
   put-str s n h =
       rw (add-zero (t .consts), ← h)
-      (record { topEntries = omega arith; topCodes = omega arith; topConsts = refl; topTexts = refl; table = refl; code = refl; kinds = refl; words = refl; texts = refl })
+      (record { topEntries = omega arith; topCodes = omega arith; topConsts = refl; topTexts = refl; topDescs = refl; table = refl; code = refl; kinds = refl; words = refl; texts = refl })
+
+  pub put-desc : (v n : ℕ)
+      → FramePut t (record { entries = t .entries; codes = t .codes; consts = t .consts; texts = t .texts; descs = t .descs + 1 }) (desc v n)
+      l (descriptorPut (t .entries / 4 - 1) (t .descs) (descriptorWord v n) l) c c k k w w x x
+  unfolding entryOf codesOf kindsOf wordsOf textsOf descPut descTop
+  put-desc v n =
+      record { topEntries = omega arith; topCodes = omega arith; topConsts = omega arith; topTexts = omega arith; topDescs = refl; table = refl; code = refl; kinds = refl; words = refl; texts = refl }

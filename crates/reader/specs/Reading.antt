@@ -8,14 +8,14 @@ use Rattle.image.specs.Frames.{F, framesOf}
 use Rattle.image.specs.Judge.{judgeOf}
 use Rattle.image.specs.declared.Judged.{Judged}
 use Rattle.image.specs.declared.Judged.the-variants.{Accepted, Refused}
-use Rattle.storage.specs.Layout.{Storage, contentsOf, laidIn, longEnough}
+use Rattle.storage.specs.Layout.{Storage, laidIn, longEnough}
 
 unfoldable pub readOf : List ℕ → Storage → Judged
 readOf image S = cond (longEnough S) (judgeOf image) (Refused 5 0)
 
 -- "storage untouched"
 unfoldable pub leftOf : Judged → List F → Storage → Storage
-leftOf (Accepted n) fs S = laidIn (contentsOf n fs) S
+leftOf (Accepted n) fs S = laidIn n fs S
 leftOf (Refused k n) fs S = S
 
 pub record Read (image : List ℕ) (r : Judged) (S S' : Storage) : Type 0 where

@@ -6,12 +6,14 @@ use storage::Tops;
 ghost use mathlib.Core.Path.{_≡_};
 ghost use mathlib.Core.Bool.{true};
 ghost use mathlib.Core.List.{[], _∷_};
-ghost use Prim.Native.Nat.{_+_, _*_, _≤_};
-ghost use lib.ListN.{length, take, drop};
+ghost use Prim.Native.Nat.{_+_, _-_, _*_, _/_, _≤_};
+ghost use lib.ListN.{length, take, drop, set};
 ghost use lib.Seq.{sets};
 ghost use Rattle.image.specs.Hex.{paired, bytesOf};
 ghost use Rattle.image.specs.Frames.{shape, frameOf, framesOf};
-ghost use Rattle.reader.specs.Steps.{Small, FramePut, Suffice, Filled};
+ghost use Rattle.storage.specs.Fields.{descriptorsPlace};
+ghost use Rattle.storage.specs.Layout.{descriptorWord};
+ghost use Rattle.reader.specs.Steps.{Small, descriptorPut, FramePut, Suffice, Filled};
 
 // The n bytes of a string's line, from its third on.
 fn put_text(line: &[u8], n: usize, texts: &mut [u8], top: usize)
@@ -36,6 +38,35 @@ fn put_entry(table: &mut [u64], at: usize, r: u64, p: u64, c: u64, k: u64)
     slices::put_word(table, at, 3, k);
 }
 
+// The prototype that was opened last, where the next entry goes to `at`; 0 where none was.
+fn opened_last(at: usize) -> usize
+    ensures { λ r. ⌜ r ≡ at / 4 - 1 ⌝ }
+{
+    if at < storage::ENTRY {
+        return 0;
+    }
+    at / storage::ENTRY - 1
+}
+
+// Prototype q has no descriptors so far.
+fn put_none(table: &mut [u64], q: usize)
+    requires { ⌜ q ≤ 1048576 ⌝ }
+    ensures { λ _. ⌜ now (table .exit) ≡ set (now (table .entry)) (descriptorsPlace q) 0 ⌝ }
+{
+    slices::put_word(table, storage::DESCRIPTORS_AT, storage::DESCRIPTORS * q, 0);
+}
+
+// Prototype q's descriptor d, its last one so far: kind and number.
+fn put_descriptor(table: &mut [u64], q: usize, d: usize, kind: u8, n: u8)
+    requires { ⌜ (q ≤ 1048576) × (d ≤ 1048576) ⌝ }
+    ensures { λ _. ⌜ now (table .exit) ≡ descriptorPut q d (descriptorWord kind n) (now (table .entry)) ⌝ }
+{
+    let place = storage::DESCRIPTORS_AT + storage::DESCRIPTORS * q;
+    let w = (kind as u64) * 256 + (n as u64);
+    slices::put_word(table, place, 1 + d, w);
+    slices::put_word(table, place, 0, (d + 1) as u64);
+}
+
 // One frame; what is handed back is how far each slice is filled now.
 fn put_frame(
     line: &[u8],
@@ -55,10 +86,13 @@ fn put_frame(
     let k = t.codes;
     let c = t.consts;
     let top = t.texts;
+    let d = t.descs;
     match f {
         Frame::Open(r, p) => {
             put_entry(table, at, r as u64, p as u64, c as u64, k as u64);
+            put_none(table, at / storage::ENTRY);
             t.entries = at + 4;
+            t.descs = 0;
         }
         Frame::Const(tag, w) => {
             slices::put_byte(const_kinds, c, 0, tag);
@@ -81,6 +115,10 @@ fn put_frame(
             t.entries = at + 4;
         }
         Frame::Bad(_) => {}
+        Frame::Desc(kind, n) => {
+            put_descriptor(table, opened_last(at), d, kind, n);
+            t.descs = d + 1;
+        }
     }
     t
 }
@@ -105,6 +143,7 @@ pub(crate) fn fill_all(
         codes: 0,
         consts: 0,
         texts: 0,
+        descs: 0,
     };
     while at < s.len() {
         let line = view::frame_at(s, at);

@@ -19,6 +19,7 @@ pub(crate) fn judge(s: &[u8]) -> Judged
         protos: 0,
         consts: 0,
         codes: 0,
+        descs: 0,
     };
     while at < s.len() {
         let n = view::frame_at(s, at);

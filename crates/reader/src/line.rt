@@ -7,7 +7,7 @@ ghost use Prim.Native.Nat.{_+_, _≤_, _<_};
 ghost use lib.ListN.{length, drop};
 ghost use Rattle.image.specs.Hex.{paired, bytesOf};
 ghost use Rattle.image.specs.Lines.{lineLen};
-ghost use Rattle.image.specs.Frames.{shape, openBytes, wordBytesOf, constBytes, codeBytes, endBytes, kindBytes, frameOf};
+ghost use Rattle.image.specs.Frames.{shape, openBytes, wordBytesOf, constBytes, codeBytes, endBytes, descBytes, kindBytes, frameOf};
 ghost use Rattle.reader.specs.Steps.{Advance};
 
 // Where the first LF at or after `at` stands; the length where there is none.
@@ -107,6 +107,22 @@ fn end_frame(s: &[u8]) -> Frame
     Frame::Bad(2)
 }
 
+// d1, kind (0 or 1), number.
+fn desc_frame(s: &[u8]) -> Frame
+    requires { ⌜ paired (now s) ≡ true ⌝ }
+    ensures { λ r. ⌜ r ≡ shape (descBytes (bytesOf (now (s .entry)))) ⌝ }
+{
+    if s.len() == 6 {
+        let k = hex::byte_at(s, 1);
+        let n = hex::byte_at(s, 2);
+        if k <= 1 {
+            return Frame::Desc(k, n);
+        }
+        return Frame::Bad(2);
+    }
+    Frame::Bad(2)
+}
+
 // "The first byte is the kind."
 fn kind_frame(s: &[u8]) -> Frame
     requires { ⌜ (paired (now s) ≡ true) × (2 ≤ length (now s)) ⌝ }
@@ -124,6 +140,9 @@ fn kind_frame(s: &[u8]) -> Frame
     }
     if k == 0xe0 {
         return end_frame(s);
+    }
+    if k == 0xd1 {
+        return desc_frame(s);
     }
     Frame::Bad(2)
 }

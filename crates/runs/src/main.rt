@@ -5,8 +5,8 @@
 // instruction; at the end the totals. tools/luac/generate.py makes the list and what must be written.
 //
 // A line of the list is one of
-//   # words                a program's name, written as it is
-//   a0.. b0.. c0.. e0..    a line of its image, e0 the last
+//   # words                     a program's name, written as it is
+//   a0.. d1.. b0.. c0.. e0..    a line of its image, e0 the last
 use checker::Checked;
 use image::Judged;
 use step::Outcome;
@@ -81,8 +81,21 @@ fn one_nan(w: u64) -> u64 {
     w
 }
 
+// The prototype of a function, which is a closure entry.
+fn prototype(frames: &[u64], word: u64) -> u8 {
+    let entry = cells::entry(frames, word as usize) as usize;
+    (state::previous(entry) % 256) as u8
+}
+
 // A value's payload. Answers its bytes.
-fn put_value(out: &mut [u8], kind: u8, word: u64, const_words: &[u64], texts: &[u8]) -> usize
+fn put_value(
+    out: &mut [u8],
+    kind: u8,
+    word: u64,
+    const_words: &[u64],
+    texts: &[u8],
+    frames: &[u64],
+) -> usize
     ensures { λ r. ⌜ r ≤ 64 ⌝ }
 {
     if kind == 0 {
@@ -99,29 +112,40 @@ fn put_value(out: &mut [u8], kind: u8, word: u64, const_words: &[u64], texts: &[
     if kind == 4 {
         return put_text(out, constant::text_of(const_words, texts, word));
     }
+    if kind == 5 {
+        put_hex(out, 2, prototype(frames, word));
+        return 1;
+    }
     put_hex(out, 2, (word % 256) as u8);
     1
 }
 
-fn print_value(kind: u8, word: u64, const_words: &[u64], texts: &[u8]) {
+fn print_value(kind: u8, word: u64, const_words: &[u64], texts: &[u8], frames: &[u64]) {
     let mut out = [b' '; 133];
     put_hex(&mut out, 0, 0xb0);
     put_hex(&mut out, 1, kind);
-    let n = put_value(&mut out, kind, word, const_words, texts);
+    let n = put_value(&mut out, kind, word, const_words, texts, frames);
     io::write_all(1, &out[..5 + 2 * n]);
 }
 
 // ---- what a run answers
 
 // The values that a Return names in the window of the only activation.
-fn print_returned(w: u64, kinds: &[u8], words: &[u64], const_words: &[u64], texts: &[u8]) {
+fn print_returned(
+    w: u64,
+    kinds: &[u8],
+    words: &[u64],
+    const_words: &[u64],
+    texts: &[u8],
+    frames: &[u64],
+) {
     let start = image::a_of(w) as usize;
     let n = image::b_of(w) as usize;
     let mut i: usize = 0;
     while i < n {
         let kind = slices::byte_at(kinds, start, i);
         let word = slices::word_at(words, start, i);
-        print_value(kind, word, const_words, texts);
+        print_value(kind, word, const_words, texts, frames);
         i += 1;
     }
 }
@@ -179,7 +203,7 @@ fn answer(
     io::print_decimal(1, o.number as u64);
     if o.number == 0 {
         let w = storage::instruction(table, code, o.prototype, o.instruction);
-        print_returned(w, kinds, words, const_words, texts);
+        print_returned(w, kinds, words, const_words, texts, frames);
     } else {
         print_place(o);
     }
@@ -316,7 +340,7 @@ fn play(s: &[u8]) {
 }
 
 fn main() {
-    let mut list = [0u8; 524288];
+    let mut list = [0u8; 1048576];
     let n = io::read_full(0, &mut list);
     play(&list[..n]);
 }

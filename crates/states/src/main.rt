@@ -9,8 +9,9 @@
 // and each cell behind it is as in a change below, without its =.
 //
 // A line of the list is one of (numbers are hexadecimal)
-//   # words                a case's name, written as it is; every cell of the storage becomes 0, of the state 5a
-//   a0.. b0.. c0.. e0..    a line of the case's image
+//   # words                a case's name, written as it is; every cell of the storage becomes 0, of the state 5a, but of
+//                          closure entries, cells and what these hold, which become 0
+//   a0.. d1.. b0.. c0.. e0..  a line of the case's image
 //   <                      the image is read
 //   =f1:2                  cell 1 of the frames becomes 2 (t table, c code, k and w kinds and words of constants, x texts,
 //                          f frames, r and v kinds and words of registers)
@@ -158,6 +159,14 @@ fn change(
         kinds,
         words,
     );
+}
+
+// No closure entry and no cell is in use: 64 of nine words and 128 of one behind the activations' closures, the cells'
+// values behind the registers.
+fn free(frames: &mut [u64], kinds: &mut [u8], words: &mut [u64]) {
+    slices::fill_words(frames, state::ENTRY_AT, state::FRAMES - state::ENTRY_AT, 0);
+    slices::fill_bytes(kinds, state::CELL_ROOM, state::CELLS, 0);
+    slices::fill_words(words, state::CELL_ROOM, state::CELLS, 0);
 }
 
 fn clear(frames: &mut [u64], kinds: &mut [u8], words: &mut [u64]) {
@@ -478,6 +487,7 @@ fn play_case(s: &[u8]) {
     let mut frames = [0x5a5a_5a5a_5a5a_5a5au64; state::FRAMES + 1];
     let mut kinds = [0x5au8; state::REGISTERS + 1];
     let mut words = [0x5a5a_5a5a_5a5a_5a5au64; state::REGISTERS + 1];
+    free(&mut frames, &mut kinds, &mut words);
     let n = lists::find(s, 0, b'\n');
     if s.len() <= n {
         return;
@@ -522,7 +532,7 @@ fn play(s: &[u8]) {
 }
 
 fn main() {
-    let mut list = [0u8; 524288];
+    let mut list = [0u8; 1048576];
     let n = io::read_full(0, &mut list);
     play(&list[..n]);
 }

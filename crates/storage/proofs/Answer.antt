@@ -13,6 +13,7 @@ use Rattle.storage.specs.Fields.{prototypesOf}
 use Rattle.storage.specs.Stored.{ReadsTo, validOf}
 use Rattle.storage.specs.declared.Validity.the-variants.{Bytes, Six}
 use Rattle.storage.proofs.Runs.{runs-accepted}
+use Rattle.storage.proofs.Described.{descs-start}
 use Rattle.storage.proofs.Reading.{short-accepted, reads-frames, frames-reads}
 use Rattle.storage.proofs.Six.{fits, bytes-answer, six-answer}
 use Rattle.storage.proofs.Walk.{Whole}
@@ -24,6 +25,7 @@ reads-whole {s} r =
       frames = framesOf s;
       runs = f .runs;
       lies = f .lies;
+      descs = descs-start _ (framesOf s) (f .descriptors);
       said = accepted-said s (r .count) (r .accepted);
       size = omega (arith, ap length (round-trip s (r .count) (r .accepted)));
       short = fits r;
@@ -34,7 +36,7 @@ whole-reads {n} {S} w =
     let e = frames-said (w .frames) (w .said) in
     frames-reads
     (short-accepted (written (w .frames)) (prototypesOf (S .table)) (omega (arith, w .size, w .short)) (rw e (runs-accepted (w .runs) 0)))
-    (record { runs = rw e (w .runs); lies = rw e (w .lies) })
+    (record { runs = rw e (w .runs); lies = rw e (w .lies); descriptors = rw e (w .descs .later) })
 
 pub bytes : {n : ℕ} {S : Storage} → Whole n S → Bytes n ≡ validOf S
 bytes {n} w = let e : length (written (w .frames)) ≡ n = omega (arith, w .size) in sym (bytes-answer (whole-reads w) ∙ ap Bytes e)

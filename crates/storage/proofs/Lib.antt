@@ -3,6 +3,7 @@ pub mod Six
 pub mod Places
 pub mod Runs
 pub mod Lies
+pub mod Described
 pub mod Seen
 pub mod Order
 pub mod Reading

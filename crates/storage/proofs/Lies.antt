@@ -5,7 +5,7 @@ use native.Mathlib.Nat.{add-zero}
 use mathlib.Core.Path.{_≡_, refl, sym, subst}
 use mathlib.Core.List.{List, [], _∷_}
 use lib.ListN.{length}
-use Rattle.image.specs.Frames.{F, opens, const, str, code, ends, bad, shape}
+use Rattle.image.specs.Frames.{F, opens, const, str, code, ends, bad, desc, shape}
 use Rattle.storage.specs.Layout.{Storage, storage, entryOf, codesOf, kindsOf, wordsOf, textsOf, entriesAll, codesAll, kindsAll, wordsAll, textsAll}
 use Rattle.storage.specs.Fields.{entryPlace}
 use Rattle.storage.specs.Cursor.{past}
@@ -35,6 +35,7 @@ beyond t f =
       codes = t .codes + length (codesOf f);
       consts = t .consts + length (kindsOf f);
       texts = t .texts + length (textsOf f);
+      descs = past t (shape f) .descs;
     }
 
 beyond-past : (t : Tops) (f : F) → beyond t f ≡ past t (shape f)
@@ -45,6 +46,7 @@ beyond-past t (str l) = simp add-zero
 beyond-past t (code w) = simp add-zero
 beyond-past t (ends n) = simp add-zero
 beyond-past t (bad k) = simp add-zero
+beyond-past t (desc k n) = simp add-zero
 
 pub past-texts : (t : Tops) (f : F) (S : Storage) → t .texts ≤ length (S .texts) → Stands t (one t f) S → past t (shape f) .texts ≤ length (S .texts)
 past-texts t f S h l = subst (λ (u : Tops). u .texts ≤ length (S .texts)) (beyond-past t f) (at-within (S .texts) (t .texts) (textsOf f) (l .texts) h)
@@ -58,6 +60,7 @@ words-kinds top (str l) = refl
 words-kinds top (code w) = refl
 words-kinds top (ends n) = refl
 words-kinds top (bad k) = refl
+words-kinds top (desc k n) = refl
 
 pub lies-none : (t : Tops) (S : Storage) → Stands t (all t []) S
 unfolding entriesAll codesAll kindsAll wordsAll textsAll
@@ -97,17 +100,17 @@ module _ (t : Tops) (f : F) (fs : List F) (S : Storage) where
 
 -- ---- by what is passed
 
--- p entries, c constants, k instructions and x bytes of texts are passed
-abbrev pub tops : ℕ → ℕ → ℕ → ℕ → Tops
-tops p c k x = record { entries = entryPlace p; codes = k; consts = c; texts = x }
+-- p entries, c constants, k instructions and x bytes of texts are passed, and d descriptors of the last prototype
+abbrev pub tops : ℕ → ℕ → ℕ → ℕ → ℕ → Tops
+tops p c k x d = record { entries = entryPlace p; codes = k; consts = c; texts = x; descs = d }
 
 -- frames that lie in S from there on
-abbrev pub Lie : Storage → ℕ → ℕ → ℕ → ℕ → List F → Type 0
-Lie S p c k x fs = Stands (tops p c k x) (all (tops p c k x) fs) S
+abbrev pub Lie : Storage → ℕ → ℕ → ℕ → ℕ → ℕ → List F → Type 0
+Lie S p c k x d fs = Stands (tops p c k x d) (all (tops p c k x d) fs) S
 
 -- behind an a0 one entry more is passed
-pub lies-opened : (S : Storage) (p c k x r u : ℕ) (fs : List F) → Lie S p c k x (opens r u ∷ fs) → Lie S (p + 1) c k x fs
+pub lies-opened : (S : Storage) (p c k x d r u : ℕ) (fs : List F) → Lie S p c k x d (opens r u ∷ fs) → Lie S (p + 1) c k x 0 fs
 unfolding past shape
-lies-opened S p c k x r u fs l =
+lies-opened S p c k x d r u fs l =
     let e : entryPlace p + 4 ≡ entryPlace (p + 1) = omega arith in
-    rw e at (lies-rest (tops p c k x) (opens r u) fs S l)
+    rw e at (lies-rest (tops p c k x d) (opens r u) fs S l)

@@ -14,7 +14,7 @@ use Rattle.image.specs.declared.Judged.the-variants.{Accepted, Refused}
 use Rattle.choices.proofs.Choices.{cond-cases, cond-true}
 use Rattle.storage.specs.Layout.{Storage, contentsOf}
 use Rattle.storage.specs.Fields.{prototypesOf}
-use Rattle.storage.specs.Stored.{ReadsTo, startsWith, standsIn, backIn}
+use Rattle.storage.specs.Stored.{ReadsTo, describes, startsWith, standsIn, backIn}
 use Rattle.storage.proofs.Places.{at-cons, at-head, at-rest, at-fits}
 use Rattle.storage.proofs.Runs.{Runs, accepted-runs}
 use Rattle.storage.proofs.Lies.{Stands, all}
@@ -43,7 +43,8 @@ take-starts (x ∷ xs) (y ∷ l) e =
 pub back-reads : (s : List ℕ) (S : Storage) (j : Judged) → judgeOf s ≡ j → backIn j (framesOf s) S ≡ true → ReadsTo s S
 unfolding backIn standsIn
 back-reads s S (Accepted n) e h =
-    let a = cond-true _ _ h in
+    let g = cond-true _ _ h in
+    let a = cond-true _ _ (g .0) in
     let b = cond-true _ _ (a .1) in
     let c = cond-true _ _ (b .1) in
     let d = cond-true _ _ (c .1) in
@@ -55,6 +56,7 @@ back-reads s S (Accepted n) e h =
       kinds = starts-take _ _ (c .0);
       words = starts-take _ _ (d .0);
       texts = starts-take _ _ (d .1);
+      descriptors = g .1;
     }
 back-reads s S (Refused k n) e h = let z : _≡_ {A = ℕ} 0 1 = cc in absurd (omega arith)
 
@@ -69,6 +71,7 @@ reads-back {s} {S} r =
       take-starts (X .kinds) (S .kinds) (r .kinds),
       take-starts (X .words) (S .words) (r .words),
       take-starts (X .texts) (S .texts) (r .texts),
+      r .descriptors,
     ))
 
 -- ---- the judgement
@@ -92,6 +95,7 @@ short-accepted s q h e = simp (le-ltb 65536 (length s) h) e
 pub record FramesIn (s : List ℕ) (S : Storage) : Type 0 where
   pub runs : Runs start (prototypesOf (S .table)) (framesOf s)
   pub lies : Stands front (all front (framesOf s)) S
+  pub descriptors : describes 0 (framesOf s) (S .table) ≡ true
 
 pub reads-frames : {s : List ℕ} {S : Storage} → ReadsTo s S → FramesIn s S
 reads-frames {s} {S} r =
@@ -105,6 +109,7 @@ reads-frames {s} {S} r =
         words = r .words;
         texts = r .texts;
       };
+      descriptors = r .descriptors;
     }
 
 pub frames-reads : {s : List ℕ} {S : Storage} → judgeOf s ≡ Accepted (prototypesOf (S .table)) → FramesIn s S → ReadsTo s S
@@ -118,4 +123,5 @@ frames-reads {s} {S} e f =
       kinds = f .lies .kinds;
       words = f .lies .words;
       texts = f .lies .texts;
+      descriptors = f .descriptors;
     }

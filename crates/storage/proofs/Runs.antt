@@ -5,13 +5,14 @@ use mathlib.Core.Path.{_≡_, refl, subst}
 use mathlib.Core.List.{List, [], _∷_}
 use lib.Dec.{leb, ltb, eqb}
 use borrow.Author.Tests.{ltb-true, leb-true, eqb-true}
-use Rattle.image.specs.Frames.{F, opens, const, str, code, ends, bad, shape}
-use Rattle.image.specs.Judge.{constStep, codeStep, frameStep, atEnd, judgeAfter, judgeFrames}
+use Rattle.image.specs.Frames.{F, opens, const, str, code, ends, bad, desc, shape}
+use Rattle.image.specs.Judge.{constStep, codeStep, descStep, frameStep, atEnd, judgeAfter, judgeFrames}
 use Rattle.image.specs.declared.Counts.{Counts}
 use Rattle.image.specs.declared.Step.{Step}
 use Rattle.image.specs.declared.Step.the-variants.{On, Done, No}
 use Rattle.image.specs.declared.Judged.the-variants.{Accepted}
 use Rattle.choices.proofs.Choices.{cond-cases}
+use Rattle.storage.specs.Layout.{descriptorsAhead}
 
 -- ---- the run
 
@@ -45,17 +46,21 @@ runs-accepted (next r h) n = rw r (runs-accepted h (n + 1))
 -- ---- what a step says of its frame
 
 abbrev constMore : Counts → Counts
-constMore st = record { protos = st .protos; consts = st .consts + 1; codes = st .codes }
+constMore st = record { protos = st .protos; consts = st .consts + 1; codes = st .codes; descs = st .descs }
 
 abbrev codeMore : Counts → Counts
-codeMore st = record { protos = st .protos; consts = st .consts; codes = st .codes + 1 }
+codeMore st = record { protos = st .protos; consts = st .consts; codes = st .codes + 1; descs = st .descs }
+
+abbrev descMore : Counts → Counts
+descMore st = record { protos = st .protos; consts = st .consts; codes = st .codes; descs = st .descs + 1 }
 
 pub data Told (st : Counts) : F → Step → Type 0 where
-  opened : {r p : ℕ} → st .protos < 32 → Told st (opens r p) (On (record { protos = st .protos + 1; consts = 0; codes = 0 }))
+  opened : {r p : ℕ} → st .protos < 32 → Told st (opens r p) (On (record { protos = st .protos + 1; consts = 0; codes = 0; descs = 0 }))
   word : {k w : ℕ} → 1 ≤ st .protos → st .codes ≡ 0 → Told st (const k w) (On (constMore st))
   text : {l : List ℕ} → 1 ≤ st .protos → st .codes ≡ 0 → Told st (str l) (On (constMore st))
   instruction : {w : ℕ} → 1 ≤ st .protos → Told st (code w) (On (codeMore st))
   ended : {m : ℕ} → m ≡ st .protos → Told st (ends m) Done
+  described : {k n : ℕ} → 1 ≤ st .protos → st .consts ≡ 0 → st .codes ≡ 0 → st .descs < 8 → Told st (desc k n) (On (descMore st))
   refused : {f : F} {k : ℕ} → Told st f (No k)
 
 module _ (st : Counts) (f : F) where
@@ -75,6 +80,18 @@ module _ (st : Counts) (f : F) where
       (λ a. cond-cases (Told st f) (ltb (st .codes) 4096) _ _ (λ b. on (leb-true _ _ a)) (λ b. refused))
       (λ a. refused)
 
+  desc-told : (1 ≤ st .protos → st .consts ≡ 0 → st .codes ≡ 0 → st .descs < 8 → Told st f (On (descMore st))) → Told st f (descStep st)
+  unfolding descStep
+  desc-told on =
+      cond-cases (Told st f) (leb 1 (st .protos)) _ _
+      (λ a. cond-cases (Told st f) (eqb (st .consts) 0) _ _
+      (λ b. cond-cases (Told st f) (eqb (st .codes) 0) _ _
+      (λ c. cond-cases (Told st f) (ltb (st .descs) 8) _ _
+      (λ d. on (leb-true _ _ a) (eqb-true _ _ b) (eqb-true _ _ c) (ltb-true _ _ d)) (λ d. refused))
+      (λ c. refused))
+      (λ b. refused))
+      (λ a. refused)
+
 told : (f : F) (st : Counts) → Told st f (frameStep st (shape f))
 unfolding frameStep shape
 told (opens r p) st = cond-cases (Told st (opens r p)) (ltb (st .protos) 32) _ _ (λ a. opened (ltb-true _ _ a)) (λ a. refused)
@@ -83,6 +100,7 @@ told (str l) st = const-told st (str l) text
 told (code w) st = code-told st (code w) instruction
 told (ends m) st = cond-cases (Told st (ends m)) (eqb m (st .protos)) _ _ (λ a. ended (eqb-true _ _ a)) (λ a. refused)
 told (bad k) st = refused
+told (desc k n) st = desc-told st (desc k n) described
 
 pub told-as : {st : Counts} {f : F} {x : Step} → frameStep st (shape f) ≡ x → Told st f x
 told-as {st} {f} e = subst (λ (x : Step). Told st f x) e (told f st)
@@ -97,3 +115,23 @@ runs-count (next r h) = more (told-as r) (runs-count h)
     more (word a b) h = h
     more (text a b) h = h
     more (instruction a) h = h
+    more (described a b c d) h = h
+
+-- ---- descriptors come before constants and instructions
+
+abbrev pub Begun : Counts → Type 0
+Begun st = 1 ≤ st .consts + st .codes
+
+pub none-ahead : {st : Counts} {q : ℕ} {fs : List F} → Runs st q fs → Begun st → descriptorsAhead fs ≡ []
+none-ahead (last r e) h = at-last (told-as r)
+  where
+    at-last : {st : Counts} {f : F} → Told st f Done → descriptorsAhead (f ∷ []) ≡ []
+    at-last (ended e) = unfold descriptorsAhead in refl
+none-ahead (next {fs} r g) h = at-next fs (told-as r) h
+  where
+    at-next : {st u : Counts} {f : F} (fs : List F) → Told st f (On u) → Begun st → descriptorsAhead (f ∷ fs) ≡ []
+    at-next fs (opened a) h = unfold descriptorsAhead in refl
+    at-next fs (word a b) h = unfold descriptorsAhead in refl
+    at-next fs (text a b) h = unfold descriptorsAhead in refl
+    at-next fs (instruction a) h = unfold descriptorsAhead in refl
+    at-next fs (described a b c d) h = absurd (omega arith)

@@ -7,13 +7,13 @@ use native.Mathlib.Nat.{add-zero}
 use mathlib.Core.Path.{_≡_, refl, _∙_}
 use mathlib.Core.List.{List, [], _∷_}
 use lib.ListN.{length, getD}
-use Rattle.image.specs.Frames.{F, opens, const, str, code, ends}
+use Rattle.image.specs.Frames.{F, opens, const, str, code, ends, desc}
 use Rattle.image.specs.declared.Counts.{Counts}
 use Rattle.image.specs.declared.Step.the-variants.{On, Done}
 use Rattle.storage.specs.Layout.{Storage, entryOf, codesOf, kindsOf, wordsOf, entriesAll, codesAll, kindsAll, wordsAll}
 use Rattle.storage.specs.declared.Tops.{Tops}
 use Rattle.storage.proofs.Places.{At, at-fits, at-cell, at-head}
-use Rattle.storage.proofs.Runs.{Runs, last, next, Told, opened, word, text, instruction, ended, told-as}
+use Rattle.storage.proofs.Runs.{Runs, last, next, Told, opened, word, text, instruction, ended, described, told-as}
 use Rattle.storage.proofs.Lies.{Stands, all}
 
 -- ---- the next entry of an accepted run
@@ -56,6 +56,15 @@ entry-next (instruction a) ih c k =
     let h = ih (c + 0) (k + 1) in
     let o = h .order (omega arith) ∙ add-zero c in
     record { four = h .four; consts = omega (arith, h .consts); codes = omega (arith, h .codes); order = λ x. o; fresh = λ x. absurd (omega arith) }
+entry-next (described a b e d) ih c k =
+    let h = ih (c + 0) (k + 0) in
+    record {
+      four = h .four;
+      consts = omega (arith, h .consts);
+      codes = omega (arith, h .codes);
+      order = λ o. absurd (omega arith);
+      fresh = λ o. absurd (omega arith);
+    }
 
 pub entry-of : {st : Counts} {q : ℕ} {fs : List F} → Runs st q fs → (c k : ℕ) → Entries st c k fs
 entry-of (last r e) = entry-last (told-as r)
@@ -127,6 +136,13 @@ module _ (t : Tops) (S : Storage) where
     word-seen k w l =
         let h = entry-of r (t .consts + 1) (t .codes + 0) in
         constant-at k w _ _ _ (h .four) (h .consts) (l .table) (l .kinds) (l .words)
+
+    -- a descriptor stands before an entry too
+    pub desc-room : (k n : ℕ) → Stands t (all t (desc k n ∷ fs)) S → t .entries + 4 ≤ length (S .table)
+    unfolding entriesAll entryOf kindsOf codesOf
+    desc-room k n l =
+        let h = entry-of r (t .consts + 0) (t .codes + 0) in
+        omega (arith, at-fits (S .table) (t .entries) _ (l .table) (omega (arith, h .four)), h .four)
 
     pub text-seen : (b : List ℕ) → Stands t (all t (str b ∷ fs)) S → Constant 4 (t .texts * 65536 + length b)
     unfolding entriesAll entryOf kindsOf codesOf wordsOf kindsAll wordsAll

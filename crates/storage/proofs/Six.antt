@@ -22,7 +22,7 @@ pub only-image : {s : List ℕ} {S : Storage} → ReadsTo s S → imageIn S ≡ 
 unfolding imageIn
 only-image {s} {S} r =
     let f = reads-frames r in
-    ap written (sym (frames-in S (framesOf s) (f .runs) (accepted-said s (r .count) (r .accepted)) (f .lies)))
+    ap written (sym (frames-in S (framesOf s) (f .runs) (accepted-said s (r .count) (r .accepted)) (f .lies) (f .descriptors)))
     ∙ round-trip s (r .count) (r .accepted)
 
 -- so two different images never leave the same storage

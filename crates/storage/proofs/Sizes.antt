@@ -5,10 +5,10 @@ use mathlib.Core.Path.{_≡_, refl}
 use mathlib.Core.List.{List, _∷_}
 use lib.ListN.{length}
 use lib.Dec.{eqb}
-use Rattle.image.specs.Frames.{F, opens, const, str, code, ends, bad, shape, payload}
+use Rattle.image.specs.Frames.{F, opens, const, str, code, ends, bad, desc, shape, payload}
 use Rattle.image.specs.Write.{written}
 use Rattle.image.specs.declared.Frame.{Frame}
-use Rattle.image.specs.declared.Frame.the-variants.{Open, Const, Str, Code, End, Bad}
+use Rattle.image.specs.declared.Frame.the-variants.{Open, Const, Str, Code, End, Bad, Desc}
 use Rattle.choices.proofs.Choices.{cond-cases}
 use Rattle.image.proofs.Said.{Said}
 use Rattle.image.proofs.Sizes.{lineSize, size-line}
@@ -32,6 +32,7 @@ size-pos (Str n) = omega arith
 size-pos (Code w) = omega arith
 size-pos (End n) = omega arith
 size-pos (Bad k) = omega arith
+size-pos (Desc k n) = omega arith
 
 size-shape : (f : F) → sizeOf (shape f) ≡ lineSize f
 unfolding sizeOf shape lineSize
@@ -41,6 +42,7 @@ size-shape (str l) = refl
 size-shape (code w) = refl
 size-shape (ends n) = refl
 size-shape (bad k) = refl
+size-shape (desc k n) = refl
 
 pub size-first : (f : F) (fs : List F) → length (written (f ∷ fs)) ≡ sizeOf (shape f) + length (written fs)
 size-first f fs = omega (arith, size-line f fs, size-shape f)
@@ -53,3 +55,4 @@ size-said (str l) y = omega (arith, y .0)
 size-said (code w) y = omega arith
 size-said (ends n) y = omega arith
 size-said (bad k) y = absurd y
+size-said (desc k n) y = omega arith

@@ -1,12 +1,13 @@
 -- For the code's own steps: the frame that stands at a cursor of the storage, or Bad 6 where none does, and how far the cursor goes. Assumes nothing.
-use Prim.Native.Nat.{ℕ, _+_, _-_, _*_, _/_, _^_}
+use Prim.Native.Nat.{ℕ, _+_, _-_, _*_, _/_, _%_, _^_}
 use mathlib.Core.List.{List}
 use lib.ListN.{length, getD}
 use lib.Dec.{leb, ltb, eqb}
 use mathlib.Core.Bool.{cond}
 use Rattle.image.specs.Frames.{payload, mostOf}
 use Rattle.image.specs.declared.Frame.{Frame}
-use Rattle.image.specs.declared.Frame.the-variants.{Open, Const, Str, Code, End, Bad}
+use Rattle.image.specs.declared.Frame.the-variants.{Open, Const, Str, Code, End, Bad, Desc}
+use Rattle.storage.specs.Fields.{descriptorsOf, descriptorOf}
 use Rattle.storage.specs.declared.Tops.{Tops}
 
 -- a string's word: where it starts, which is where the texts are passed up to, and its length
@@ -36,14 +37,25 @@ nextEntry t r p =
     cond (eqb r 0) (cond (eqb p 0) (End (t .entries / 4)) (Bad 6))
     (cond (leb r 255) (cond (leb p r) (Open r p) (Bad 6)) (Bad 6))
 
+-- the prototype that was opened last, where one was, and how many descriptors it has
+abbrev pub current : Tops → ℕ
+current t = t .entries / 4 - 1
+
+abbrev pub descriptorsHere : Tops → List ℕ → ℕ
+descriptorsHere t l = cond (leb 5 (t .entries)) (descriptorsOf l (current t)) 0
+
+unfoldable pub nextDesc : ℕ → Frame
+nextDesc w = cond (ltb w 512) (Desc (w / 256) (w % 256)) (Bad 6)
+
 unfoldable pub nextFrame : Tops → List ℕ → List ℕ → List ℕ → List ℕ → List ℕ → Frame
 nextFrame t l c k w x =
     cond (leb (t .entries + 4) (length l))
+    (cond (ltb (t .descs) (descriptorsHere t l)) (nextDesc (descriptorOf l (current t) (t .descs)))
     (cond (ltb (t .consts) (getD l (t .entries + 2) 0)) (nextConst t k w x)
     (cond (eqb (t .consts) (getD l (t .entries + 2) 0))
     (cond (ltb (t .codes) (getD l (t .entries + 3) 0)) (nextCode t c)
     (cond (eqb (t .codes) (getD l (t .entries + 3) 0)) (nextEntry t (getD l (t .entries) 0) (getD l (t .entries + 1) 0)) (Bad 6)))
-    (Bad 6)))
+    (Bad 6))))
     (Bad 6)
 
 -- how many bytes a frame's line has
@@ -54,11 +66,13 @@ sizeOf (Str n) = 5 + 2 * n
 sizeOf (Code w) = 13
 sizeOf (End n) = 5
 sizeOf (Bad k) = 1
+sizeOf (Desc k n) = 7
 
 unfoldable pub past : Tops → Frame → Tops
-past t (Open r p) = record { entries = t .entries + 4; codes = t .codes; consts = t .consts; texts = t .texts }
-past t (Const k w) = record { entries = t .entries; codes = t .codes; consts = t .consts + 1; texts = t .texts }
-past t (Str n) = record { entries = t .entries; codes = t .codes; consts = t .consts + 1; texts = t .texts + n }
-past t (Code w) = record { entries = t .entries; codes = t .codes + 1; consts = t .consts; texts = t .texts }
-past t (End n) = record { entries = t .entries + 4; codes = t .codes; consts = t .consts; texts = t .texts }
+past t (Open r p) = record { entries = t .entries + 4; codes = t .codes; consts = t .consts; texts = t .texts; descs = 0 }
+past t (Const k w) = record { entries = t .entries; codes = t .codes; consts = t .consts + 1; texts = t .texts; descs = t .descs }
+past t (Str n) = record { entries = t .entries; codes = t .codes; consts = t .consts + 1; texts = t .texts + n; descs = t .descs }
+past t (Code w) = record { entries = t .entries; codes = t .codes + 1; consts = t .consts; texts = t .texts; descs = t .descs }
+past t (End n) = record { entries = t .entries + 4; codes = t .codes; consts = t .consts; texts = t .texts; descs = t .descs }
 past t (Bad k) = t
+past t (Desc k n) = record { entries = t .entries; codes = t .codes; consts = t .consts; texts = t .texts; descs = t .descs + 1 }

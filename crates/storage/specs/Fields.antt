@@ -12,9 +12,13 @@ prototypesOf table = getD table 0 0
 abbrev pub entryPlace : ℕ → ℕ
 entryPlace q = 1 + 4 * q
 
--- how many words there are, with the entries of 32 prototypes and the closing one
+-- document 02, 6/12: behind the entries of 32 prototypes and the closing one, for each prototype the number of its descriptors, then room for 8
+abbrev pub descriptorsPlace : ℕ → ℕ
+descriptorsPlace q = entryPlace 33 + 9 * q
+
+-- how many words there are
 abbrev pub tableSlots : ℕ
-tableSlots = entryPlace 33
+tableSlots = descriptorsPlace 32
 
 -- field i of prototype q's entry
 abbrev pub field : ℕ → List ℕ → ℕ → ℕ
@@ -31,6 +35,13 @@ firstConstant table q = field 2 table q
 
 abbrev pub firstInstruction : List ℕ → ℕ → ℕ
 firstInstruction table q = field 3 table q
+
+-- how many descriptors prototype q has, and its descriptor i: "00 and a parent's register" is the register, "01 and the parent's upvalue number" 256 more than that
+abbrev pub descriptorsOf : List ℕ → ℕ → ℕ
+descriptorsOf table q = getD table (descriptorsPlace q) 0
+
+abbrev pub descriptorOf : List ℕ → ℕ → ℕ → ℕ
+descriptorOf table q i = getD table (descriptorsPlace q + (1 + i)) 0
 
 -- the next prototype's begin where these end
 abbrev pub constantsOf : List ℕ → ℕ → ℕ

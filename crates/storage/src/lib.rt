@@ -4,14 +4,16 @@ use image::Counts;
 use image::Frame;
 use image::Step;
 ghost use mathlib.Core.Path.{_≡_};
+ghost use mathlib.Core.Bool.{cond};
+ghost use lib.Dec.{leb};
 ghost use Rattle.storage.specs.Layout.{longEnough, storageIn};
-ghost use Prim.Native.Nat.{_+_, _-_, _≤_, _<_};
-ghost use Rattle.storage.specs.Fields.{prototypesOf, field, registersOf, parametersOf, firstConstant, firstInstruction, constantsOf, instructionsOf, instructionAt, constantKind, constantWord};
+ghost use Prim.Native.Nat.{_+_, _-_, _/_, _≤_, _<_};
+ghost use Rattle.storage.specs.Fields.{prototypesOf, field, registersOf, parametersOf, firstConstant, firstInstruction, descriptorsOf, descriptorOf, constantsOf, instructionsOf, instructionAt, constantKind, constantWord};
 ghost use Rattle.storage.specs.Stored.{validOf};
-ghost use Rattle.storage.specs.Cursor.{nextText, nextConst, nextCode, nextEntry, nextFrame, sizeOf, past};
+ghost use Rattle.storage.specs.Cursor.{nextText, nextConst, nextCode, nextEntry, nextDesc, nextFrame, sizeOf, past};
 
 // The published sizes: how long the slices have to be.
-pub const TABLE: usize = 133;
+pub const TABLE: usize = 421;
 
 pub const CODE: usize = 5041;
 
@@ -64,6 +66,11 @@ pub const CONSTANT_AT: usize = 2;
 
 pub const INSTRUCTION_AT: usize = 3;
 
+// Behind the entries: of each prototype the number of its descriptors, then these.
+pub const DESCRIPTORS_AT: usize = 133;
+
+pub const DESCRIPTORS: usize = 9;
+
 pub fn prototypes(table: &[u64]) -> usize
     ensures { λ r. ⌜ r ≡ prototypesOf (now (table .entry)) ⌝ }
 {
@@ -103,6 +110,29 @@ pub fn first_instruction(table: &[u64], q: usize) -> usize
     ensures { λ r. ⌜ r ≡ firstInstruction (now (table .entry)) q ⌝ }
 {
     field_at(table, q, INSTRUCTION_AT)
+}
+
+// How many descriptors prototype q has.
+pub fn descriptors(table: &[u64], q: usize) -> usize
+    ensures { λ r. ⌜ r ≡ descriptorsOf (now (table .entry)) q ⌝ }
+{
+    if table.len() <= q {
+        return 0;
+    }
+    slices::word_at(table, DESCRIPTORS_AT, DESCRIPTORS * q) as usize
+}
+
+// Its descriptor i: a register of the parent, or 256 and a number of the parent's upvalues.
+pub fn descriptor(table: &[u64], q: usize, i: usize) -> usize
+    ensures { λ r. ⌜ r ≡ descriptorOf (now (table .entry)) q i ⌝ }
+{
+    if table.len() <= q {
+        return 0;
+    }
+    if table.len() <= i {
+        return 0;
+    }
+    slices::word_at(table, DESCRIPTORS_AT + DESCRIPTORS * q, 1 + i) as usize
 }
 
 // How much field i grows from prototype q's entry to the next.
@@ -168,12 +198,14 @@ pub fn constant_word(
 
 // ---- the test behind 6: the storage's frames, one after the other
 
-// A cursor over the storage: where the next entry is, and how many instructions, constants and bytes of texts are passed.
+// A cursor over the storage: where the next entry is; how many instructions, constants and bytes of texts are passed; and
+// how many descriptors of the prototype that was opened last.
 pub struct Tops {
     pub entries: usize,
     pub codes: usize,
     pub consts: usize,
     pub texts: usize,
+    pub descs: usize,
 }
 
 // A string's word: it starts where the texts are passed up to; `n` is how many bytes of texts there are.
@@ -257,7 +289,27 @@ fn next_entry(t: Tops, r: u64, p: u64) -> Frame
     Frame::Open(r as u8, p as u8)
 }
 
-// The frame that comes next: constants up to the next entry's first, then instructions up to its first, then the entry.
+// A descriptor's word.
+fn next_desc(w: usize) -> Frame
+    ensures { λ r. ⌜ r ≡ nextDesc w ⌝ }
+{
+    if w < 512 {
+        return Frame::Desc((w / 256) as u8, (w % 256) as u8);
+    }
+    Frame::Bad(6)
+}
+
+// How many descriptors the prototype that was opened last has; 0 where none is open.
+fn descriptors_here(table: &[u64], at: usize) -> usize
+    ensures { λ r. ⌜ r ≡ cond (leb 5 at) (descriptorsOf (now (table .entry)) (at / 4 - 1)) 0 ⌝ }
+{
+    if at < 5 {
+        return 0;
+    }
+    descriptors(table, at / 4 - 1)
+}
+
+// The frame that comes next: the last prototype's descriptors, constants up to the next entry's first, then instructions up to its first, then the entry.
 fn next_from(
     t: Tops,
     table: &[u64],
@@ -274,6 +326,10 @@ fn next_from(
     let k = t.codes as u64;
     if table.len() < at + 4 {
         return Frame::Bad(6);
+    }
+    let d = t.descs;
+    if d < descriptors_here(table, at) {
+        return next_desc(descriptor(table, at / 4 - 1, d));
     }
     let cs = table[at + 2];
     let ks = table[at + 3];
@@ -304,53 +360,68 @@ fn size_of(f: Frame) -> usize
         Frame::Code(_) => 13,
         Frame::End(_) => 5,
         Frame::Bad(_) => 1,
+        Frame::Desc(_, _) => 7,
     }
 }
 
 fn past_of(t: Tops, f: Frame) -> Tops
-    requires { ⌜ (sizeOf f ≤ 1000) × ((t .entries ≤ 1048576) × ((t .codes ≤ 1048576) × ((t .consts ≤ 1048576) × (t .texts ≤ 1048576)))) ⌝ }
+    requires { ⌜ (sizeOf f ≤ 1000) × ((t .entries ≤ 1048576) × ((t .codes ≤ 1048576) × ((t .consts ≤ 1048576) × ((t .texts ≤ 1048576) × (t .descs ≤ 1048576))))) ⌝ }
     ensures { λ r. ⌜ r ≡ past t f ⌝ }
 {
     let at = t.entries;
     let k = t.codes;
     let c = t.consts;
     let top = t.texts;
+    let d = t.descs;
     match f {
         Frame::Open(_, _) => Tops {
             entries: at + 4,
             codes: k,
             consts: c,
             texts: top,
+            descs: 0,
         },
         Frame::Const(_, _) => Tops {
             entries: at,
             codes: k,
             consts: c + 1,
             texts: top,
+            descs: d,
         },
         Frame::Str(n) => Tops {
             entries: at,
             codes: k,
             consts: c + 1,
             texts: top + n,
+            descs: d,
         },
         Frame::Code(_) => Tops {
             entries: at,
             codes: k + 1,
             consts: c,
             texts: top,
+            descs: d,
         },
         Frame::End(_) => Tops {
             entries: at + 4,
             codes: k,
             consts: c,
             texts: top,
+            descs: d,
         },
         Frame::Bad(_) => Tops {
             entries: at,
             codes: k,
             consts: c,
             texts: top,
+            descs: d,
+        },
+        Frame::Desc(_, _) => Tops {
+            entries: at,
+            codes: k,
+            consts: c,
+            texts: top,
+            descs: d + 1,
         },
     }
 }
@@ -376,11 +447,13 @@ pub fn valid(
         codes: 0,
         consts: 0,
         texts: 0,
+        descs: 0,
     };
     let mut st = Counts {
         protos: 0,
         consts: 0,
         codes: 0,
+        descs: 0,
     };
     let mut b = 0;
     while b <= 65536 {

@@ -124,6 +124,10 @@ fn of_effect(e: Effect) -> Outcome {
         Effect::Leave(_, _) => none(),
         Effect::Fail(n, operand) => failed(wide(n), operand),
         Effect::Fault => none(),
+        Effect::Get(_, _) => none(),
+        Effect::Put(_, _) => none(),
+        Effect::Close(_, _) => none(),
+        Effect::Capture(_, _) => none(),
     }
 }
 

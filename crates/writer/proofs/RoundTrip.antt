@@ -2,15 +2,14 @@
 -- two images leave one storage. Each follows from `only-image` of crate storage, that a storage says one image. Assumes nothing.
 use Prim.Native.Nat.{ℕ, _≤_}
 use native.Mathlib.Omega.{arith}
-use mathlib.Core.Path.{_≡_, refl, sym, _∙_}
+use mathlib.Core.Path.{_≡_, refl, _∙_}
 use mathlib.Core.Bool.{true}
 use mathlib.Core.List.{List}
 use lib.ListN.{length, take, drop, length-append, length-drop}
 use lib.Seq.{take-append-seam}
 use lib.Dec.{leb}
 use borrow.Author.Tests.{le-leb, leb-true}
-use Rattle.image.specs.Frames.{framesOf}
-use Rattle.image.specs.Judge.{judgeOf}
+use Rattle.image.specs.Frames.{F, framesOf}
 use Rattle.image.specs.declared.Judged.{Judged}
 use Rattle.image.specs.declared.Judged.the-variants.{Accepted}
 use Rattle.choices.proofs.Choices.{by-bool, cond-true}
@@ -18,46 +17,33 @@ use Rattle.storage.specs.Layout.{Storage, contentsOf, laid, laidIn, tableSize, 
 use Rattle.storage.specs.Stored.{ReadsTo, imageIn, readsBack}
 use Rattle.storage.proofs.Six.{only-image, one-image, readable, readable-back}
 use Rattle.reader.specs.Reading.{readOf, leftOf, Read}
+use Rattle.reader.proofs.Described.{described-length}
+use Rattle.reader.proofs.Contents.{reads-to}
 use Rattle.writer.specs.Writing.{writeOf, outOf, Written}
 use Rattle.writer.specs.declared.Wrote.{Wrote}
 use Rattle.writer.specs.declared.Wrote.the-variants.{Bytes, Refused}
 
 -- ---- what reading an image leaves
 
--- the reader accepted: the storage was long enough, the image is accepted, and it reads to what is left
-read-parts :
-    {s : List ℕ} {q : ℕ} {S S' : Storage} → Read s (Accepted q) S S'
-    → (longEnough S ≡ true) × ((judgeOf s ≡ Accepted q) × (S' ≡ laidIn (contentsOf q (framesOf s)) S))
+-- the reader accepted: the storage was long enough, and the image's contents are left
+read-parts : {s : List ℕ} {q : ℕ} {S S' : Storage} → Read s (Accepted q) S S' → (longEnough S ≡ true) × (S' ≡ laidIn q (framesOf s) S)
 unfolding leftOf
-read-parts {s} {q} {S} {S'} r = let p = tested (r .answer) in (p .0, (p .1, r .left))
+read-parts {s} {q} {S} {S'} r = (tested (r .answer), r .left)
   where
-    tested : Accepted q ≡ readOf s S → (longEnough S ≡ true) × (judgeOf s ≡ Accepted q)
+    tested : Accepted q ≡ readOf s S → longEnough S ≡ true
     tested = unfold readOf in
-        by-bool (longEnough S) (λ l. rw l (λ e. (refl, sym e)))
-        (λ l. rw l (λ e. let z : _≡_ {A = ℕ} 0 1 = cc in absurd (omega arith)))
+        by-bool (longEnough S) (λ l. rw l (λ e. refl)) (λ l. rw l (λ e. let z : _≡_ {A = ℕ} 0 1 = cc in absurd (omega arith)))
 
-pub read-reads : {s : List ℕ} {q : ℕ} {S S' : Storage} → Read s (Accepted q) S S' → ReadsTo s S'
-read-reads {s} {q} {S} {S'} r =
-    let p = read-parts r in
-    rw (p .1 .1)
-    record {
-      count = q;
-      accepted = p .1 .0;
-      table = take-append-seam _ _;
-      code = take-append-seam _ _;
-      kinds = take-append-seam _ _;
-      words = take-append-seam _ _;
-      texts = take-append-seam _ _;
-    }
-
-pub left-long : (X S : Storage) → longEnough S ≡ true → longEnough (laidIn X S) ≡ true
+pub left-long : (n : ℕ) (fs : List F) (S : Storage) → longEnough S ≡ true → longEnough (laidIn n fs S) ≡ true
 unfolding longEnough
-left-long X S h =
+left-long n fs S h =
+    let X = contentsOf n fs in
     let a = cond-true _ _ h in
     let b = cond-true _ _ (a .1) in
     let c = cond-true _ _ (b .1) in
     let d = cond-true _ _ (c .1) in
     simp (
+      described-length 0 fs (laid (X .table) (S .table)),
       longer (X .table) (S .table) tableSize (a .0),
       longer (X .code) (S .code) codeSize (b .0),
       longer (X .kinds) (S .kinds) constantSize (c .0),
@@ -87,7 +73,7 @@ pub read-written :
     → Written S' r out out' → (r ≡ Bytes (length s)) × (out' ≡ laid s out)
 read-written {s} {q} {S} {S'} t h w =
     let p = read-parts t in
-    written-back (read-reads t) (rw (p .1 .1) (left-long (contentsOf q (framesOf s)) S (p .0))) h w
+    written-back (reads-to s q S S' t) (rw (p .1) (left-long q (framesOf s) S (p .0))) h w
 
 -- ---- what is written reads back to the same contents
 
@@ -113,7 +99,7 @@ reads-back {S} {n} {out} {out'} w =
 -- read into any storage that is long enough, they are accepted, and lie there as they lie in the storage that was written
 pub written-read :
     {S T T' : Storage} {n : ℕ} {out out' : List ℕ} {r : Judged} (w : Written S (Bytes n) out out') → longEnough T ≡ true
-    → Read (take n out') r T T' → (r ≡ Accepted (reads-back w .count)) × (T' ≡ laidIn (contentsOf (reads-back w .count) (framesOf (take n out'))) T)
+    → Read (take n out') r T T' → (r ≡ Accepted (reads-back w .count)) × (T' ≡ laidIn (reads-back w .count) (framesOf (take n out')) T)
 unfolding readOf leftOf
 written-read {S} {T} {T'} {n} {out} {out'} {r} w l t =
     let a : r ≡ Accepted (reads-back w .count) = t .answer ∙ rw l (reads-back w .accepted) in
@@ -123,4 +109,4 @@ written-read {S} {T} {T'} {n} {out} {out'} {r} w l t =
 
 pub no-two :
     {s t : List ℕ} {q p : ℕ} {S T S' : Storage} → Read s (Accepted q) S S' → Read t (Accepted p) T S' → s ≡ t
-no-two r u = one-image (read-reads r) (read-reads u)
+no-two {s} {t} {q} {p} {S} {T} {S'} r u = one-image (reads-to s q S S' r) (reads-to t p T S' u)

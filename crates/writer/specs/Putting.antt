@@ -4,7 +4,7 @@ use mathlib.Core.Path.{_≡_}
 use mathlib.Core.List.{List}
 use lib.ListN.{length}
 use lib.Seq.{sets}
-use Rattle.storage.specs.Fields.{registersOf, parametersOf}
+use Rattle.storage.specs.Fields.{registersOf, parametersOf, descriptorsOf, descriptorOf}
 
 -- there is room for them
 abbrev pub Room : List ℕ → ℕ → List ℕ → Type 0
@@ -15,6 +15,10 @@ pub record Put (out : List ℕ) (at : ℕ) (bytes : List ℕ) (r : ℕ) (out' : 
   pub next : r ≡ at + length bytes
   pub left : out' ≡ sets out at bytes
 
--- prototype q's registers and parameters are bytes
+-- the words of prototype q's first n descriptors are two bytes each
+abbrev pub Slim : List ℕ → ℕ → ℕ → Type 0
+Slim table q n = (i : ℕ) → i < n → descriptorOf table q i < 65536
+
+-- prototype q's registers and parameters are bytes, and its descriptors are slim
 abbrev pub Narrow : List ℕ → ℕ → Type 0
-Narrow table q = (registersOf table q < 256) × (parametersOf table q < 256)
+Narrow table q = (registersOf table q < 256) × ((parametersOf table q < 256) × Slim table q (descriptorsOf table q))

@@ -9,9 +9,9 @@ ghost use Prim.Native.Nat.{ℕ, _+_, _<_};
 ghost use Rattle.image.specs.Write.{written};
 ghost use Rattle.storage.specs.Layout.{storage, storageIn};
 ghost use Rattle.storage.specs.Fields.{prototypesOf};
-ghost use Rattle.storage.specs.Stored.{constFrame, constFrames, codeFrames, protoFrames, imageIn};
+ghost use Rattle.storage.specs.Stored.{constFrame, constFrames, codeFrames, descFrames, protoFrames, imageIn};
 ghost use Rattle.writer.specs.Writing.{Written, lineOf, Lined};
-ghost use Rattle.writer.specs.Putting.{Room, Put, Narrow};
+ghost use Rattle.writer.specs.Putting.{Room, Put, Slim, Narrow};
 
 // How many bytes were written, or the refusal's number.
 pub enum Wrote {
@@ -78,6 +78,21 @@ fn put_instructions(code: &[u64], first: usize, n: usize, out: &mut [u8], at: us
     to
 }
 
+// n descriptors of prototype q.
+fn put_descriptors(table: &[u64], q: usize, n: usize, out: &mut [u8], at: usize) -> usize
+    requires { ⌜ Slim (now table) q n × Room (now out) at (written (descFrames (storage (now table) [] [] [] []) q n 0)) ⌝ }
+    ensures { λ r. ⌜ Put (now (out .entry)) at (written (descFrames (storage (now (table .entry)) [] [] [] []) q n 0)) r (now (out .exit)) ⌝ }
+{
+    let mut to = at;
+    let mut i = 0;
+    while i < n {
+        let w = storage::descriptor(table, q, i);
+        to = line::put_desc(out, to, (w / 256) as u8, (w % 256) as u8);
+        i += 1;
+    }
+    to
+}
+
 // Prototype q.
 fn put_prototype(
     table: &[u64],
@@ -98,9 +113,11 @@ fn put_prototype(
     let consts_n = storage::constants(table, q);
     let codes = storage::first_instruction(table, q);
     let codes_n = storage::instructions(table, q);
+    let descs_n = storage::descriptors(table, q);
     let t = line::put_open(out, at, registers, parameters);
-    let u = put_constants(const_kinds, const_words, texts, consts, consts_n, out, t);
-    put_instructions(code, codes, codes_n, out, u)
+    let u = put_descriptors(table, q, descs_n, out, t);
+    let v = put_constants(const_kinds, const_words, texts, consts, consts_n, out, u);
+    put_instructions(code, codes, codes_n, out, v)
 }
 
 // All prototypes, and the last line.

@@ -1,7 +1,7 @@
 // A frame's line, put into the output from a place on: its kind, what it says, and LF. Each answers the place after it.
 use crate::hex;
 ghost use mathlib.Core.List.{[], _∷_};
-ghost use Rattle.image.specs.Frames.{opens, const, str, code, ends};
+ghost use Rattle.image.specs.Frames.{opens, const, str, code, ends, desc};
 ghost use Rattle.image.specs.Write.{written};
 ghost use Rattle.writer.specs.Putting.{Room, Put};
 
@@ -68,4 +68,15 @@ pub(crate) fn put_end(out: &mut [u8], at: usize, n: u8) -> usize
     let t = hex::put_hex(out, at, 0xe0);
     let u = hex::put_hex(out, t, n);
     put_lf(out, u)
+}
+
+// A descriptor: its kind and its number.
+pub(crate) fn put_desc(out: &mut [u8], at: usize, kind: u8, n: u8) -> usize
+    requires { ⌜ Room (now out) at (written (desc kind n ∷ [])) ⌝ }
+    ensures { λ r. ⌜ Put (now (out .entry)) at (written (desc kind n ∷ [])) r (now (out .exit)) ⌝ }
+{
+    let t = hex::put_hex(out, at, 0xd1);
+    let u = hex::put_hex(out, t, kind);
+    let v = hex::put_hex(out, u, n);
+    put_lf(out, v)
 }

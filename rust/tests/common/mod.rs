@@ -115,7 +115,7 @@ pub fn b0(value: &Value<'_>) -> String {
                 write!(line, "{byte:02x}").unwrap();
             }
         }
-        Value::Function(prototype) => write!(line, "05{prototype:02x}").unwrap(),
+        Value::Function { prototype, .. } => write!(line, "05{prototype:02x}").unwrap(),
         other => panic!("the program has no line for {other}"),
     }
     line.push('\n');

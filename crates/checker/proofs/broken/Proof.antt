@@ -19,9 +19,9 @@ use Rattle.checker.proofs.Lowest.{refused}
 use Rattle.checker.proofs.broken.Statement.{statement}
 use Rattle.checker.proofs.broken.Tie as tie
 
--- the variants before Bad
+-- the variants but Bad
 abbrev carried : List ℕ
-carried = 0 ∷ 1 ∷ 2 ∷ 3 ∷ 4 ∷ 5 ∷ 6 ∷ 7 ∷ 8 ∷ 9 ∷ 10 ∷ 11 ∷ 12 ∷ 13 ∷ []
+carried = 0 ∷ 1 ∷ 2 ∷ 3 ∷ 4 ∷ 5 ∷ 6 ∷ 7 ∷ 8 ∷ 9 ∷ 10 ∷ 11 ∷ 12 ∷ 13 ∷ 15 ∷ 16 ∷ 17 ∷ []
 
 none-broken : (s : Site) (i : Instruction) → i ≡ decodeOf s → OneOf carried (tagOf the-type i) → 0 ≡ brokenOf s
 unfolding decodeOf

@@ -125,7 +125,15 @@ unfolding shapeOf operandsOf binaryOf
 returns-29 c = arm _ 44 shape.combines (c .before .before .operation-of .ensures) (c .before .match .keys29) refl (λ z. rw z) (c .decode-combines11 .ensures)
 
 returns-30 : tie.Need-returns-30
-returns-30 c = no-arm _ (c .before .operation-of .ensures) (c .match .rest)
+unfolding shapeOf operandsOf
+returns-30 c = arm _ 24 shape.getsUpValue (c .before .before .operation-of .ensures) (c .before .match .keys30) refl (λ z. refl) (c .decode-get-up-value .ensures)
+
+returns-31 : tie.Need-returns-31
+unfolding shapeOf operandsOf
+returns-31 c = arm _ 25 shape.setsUpValue (c .before .before .operation-of .ensures) (c .before .match .keys31) refl (λ z. refl) (c .decode-set-up-value .ensures)
+
+returns-32 : tie.Need-returns-32
+returns-32 c = no-arm _ (c .before .operation-of .ensures) (c .match .rest)
 
 pub decode-spec : {M : Type 1} → statement M
 decode-spec =
@@ -138,8 +146,8 @@ decode-spec =
     (λ c κs. search needs) (λ c κs. search needs) (λ c κs. search needs) (λ c κs. search needs)
     (λ c κs. search needs) (λ c κs. search needs) (λ c κs. search needs) (λ c κs. search needs)
     (λ c κs. search needs) (λ c κs. search needs) (λ c κs. search needs) (λ c κs. search needs)
-    (λ c κs. search needs) (λ c κs. search needs)
+    (λ c κs. search needs) (λ c κs. search needs) (λ c κs. search needs) (λ c κs. search needs)
     returns returns-2 returns-3 returns-4 returns-5 returns-6 returns-7 returns-8 returns-9 returns-10
     returns-11 returns-12 returns-13 returns-14 returns-15 returns-16 returns-17 returns-18 returns-19
     returns-20 returns-21 returns-22 returns-23 returns-24 returns-25 returns-26 returns-27 returns-28
-    returns-29 returns-30)
+    returns-29 returns-30 returns-31 returns-32)

@@ -12,10 +12,10 @@ use Rattle.fitness.proofs.all_fit.Statement.{statement}
 use Rattle.fitness.proofs.all_fit.Tie as tie
 
 abbrev Inv-loop : tie.InvT-loop
-Inv-loop table const-kinds kinds words n i₀ i = (i ≤ n) × (allBelow (registerFits table const-kinds kinds words) i ≡ true)
+Inv-loop table const-kinds frames kinds words n i₀ i = (i ≤ n) × (allBelow (registerFits table const-kinds frames kinds words) i ≡ true)
 
 abbrev μ-loop : tie.MeasureT-loop
-μ-loop table const-kinds kinds words n i₀ i = n - i
+μ-loop table const-kinds frames kinds words n i₀ i = n - i
 
 loop-holds : tie.Need-loop-holds Inv-loop μ-loop
 loop-holds c = (omega arith, all-none _)

@@ -3,7 +3,7 @@ use mathlib.Core.Path.{sym, ap, _∙_}
 use borrow.Author.Tests.{le-leb, lt-leb}
 use borrow.Author.Needs.{needs}
 use Rattle.fitness.specs.Fit.{markFits, operandFits}
-use Rattle.fitness.proofs.Facts.{stack-inside, fit-five, fit-short, fit-six, fit-mark, fit-operand, fit-stack, fit-end, fit-rest}
+use Rattle.fitness.proofs.Facts.{stack-inside, fit-five, fit-short, fit-six, fit-mark, fit-operand, fit-stack, fit-end, fit-values, fit-rest}
 use Rattle.choices.proofs.Choices.{denied, granted}
 use Rattle.fitness.proofs.fit.Statement.{statement}
 use Rattle.fitness.proofs.fit.Tie as tie
@@ -32,25 +32,34 @@ returns-7 c = fit-end _ _ (denied _ _ (c .before .end-fits .ensures) (c .if7 .ta
 
 values-fit-requires : tie.Need-values-fit-requires
 values-fit-requires c κs =
-    let s = c .before .before in
+    let s : tie.Else6 = search in
     stack-inside _ _ _ (granted _ _ (s .before .stack-fits .ensures) (s .if6 .left))
 
 returns-8 : tie.Need-returns-8
-returns-8 c =
-    let s7 = c .before in
-    let s6 = s7 .before .before in
-    let s5 = s6 .before .before in
-    let s4 = s5 .before .before in
-    let s3 = s4 .before .before .before in
-    let s2 = s3 .before .before in
-    let s1 = s2 .before .before in
+returns-8 c = fit-values _ _ (denied _ _ (c .before .values-fit .ensures) (c .if8 .taken))
+
+closures-fit-requires : tie.Need-closures-fit-requires
+closures-fit-requires c κs =
+    let s : tie.Else6 = search in
+    stack-inside _ _ _ (granted _ _ (s .before .stack-fits .ensures) (s .if6 .left))
+
+returns-9 : tie.Need-returns-9
+returns-9 c =
+    let s8 : tie.Else8 = search in
+    let s7 : tie.Else7 = search in
+    let s6 : tie.Else6 = search in
+    let s5 : tie.Else5 = search in
+    let s4 : tie.Else4 = search in
+    let s3 : tie.Else3 = search in
+    let s2 : tie.Else2 = search in
+    let s1 : tie.Else1 = search in
     fit-rest _ _ (granted _ _ (s1 .before .is-long-enough .ensures) (s1 .if1 .left))
     (granted _ _ (s2 .before .is-long-enough2 .ensures) (s2 .if2 .left))
     (granted _ _ (s3 .before .reads-back .ensures) (s3 .if3 .left))
     (ap markFits (sym (s4 .before .before .mark .ensures)) ∙ granted _ _ (s4 .before .mark-fits .ensures) (s4 .if4 .left))
     (ap operandFits (sym (s5 .before .operand .ensures)) ∙ le-leb _ _ (s5 .if5 .left))
-    (granted _ _ (s6 .before .stack-fits .ensures) (s6 .if6 .left)) (granted _ _ (s7 .before .end-fits .ensures) (s7 .if7 .left)) _
-    (c .values-fit .ensures)
+    (granted _ _ (s6 .before .stack-fits .ensures) (s6 .if6 .left)) (granted _ _ (s7 .before .end-fits .ensures) (s7 .if7 .left))
+    (granted _ _ (s8 .before .values-fit .ensures) (s8 .if8 .left)) _ (c .closures-fit .ensures)
 
 pub fit-spec : {M : Type 1} → statement M
 fit-spec =
@@ -69,4 +78,4 @@ fit-spec =
     (λ c κs. search needs)
     returns-6
     (λ c κs. search needs)
-    returns-7 values-fit-requires returns-8)
+    returns-7 values-fit-requires returns-8 closures-fit-requires returns-9)

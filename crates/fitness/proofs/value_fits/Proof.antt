@@ -6,24 +6,28 @@ use Rattle.fitness.proofs.value_fits.Statement.{statement}
 use Rattle.fitness.proofs.value_fits.Tie as tie
 
 returns : tie.Need-returns
-returns c = value-none _ _ _ _ (denied _ _ (c .before .is-value .ensures) (c .if1 .taken))
+returns c = value-none _ _ _ _ _ (denied _ _ (c .before .is-value .ensures) (c .if1 .taken))
 
 returns-2 : tie.Need-returns-2
 returns-2 c =
-    let s = c .before .before in
-    value-function _ _ _ _ (granted _ _ (s .before .is-value .ensures) (s .if1 .left)) _ (c .before .prototypes .ensures) (c .if2 .taken)
+    let s : tie.Else1 = search in
+    let k : tie.Then2 = search in
+    value-function _ _ _ _ _ (granted _ _ (s .before .is-value .ensures) (s .if1 .left)) (k .if2 .taken) _ (c .entry .ensures)
 
 returns-3 : tie.Need-returns-3
 returns-3 c =
-    let s = c .before .before .before .before .before in
-    value-string _ _ _ _ (granted _ _ (s .before .is-value .ensures) (s .if1 .left)) _
-    (c .before .before .before .before .prototypes .ensures) (c .before .before .if3 .taken) _ (c .before .first-constant .ensures) _
-    (c .byte-at .ensures)
+    let s : tie.Else1 = search in
+    let k : tie.Then3 = search in
+    let n : tie.After-prototypes = search in
+    let b : tie.After-first-constant = search in
+    value-string _ _ _ _ _ (granted _ _ (s .before .is-value .ensures) (s .if1 .left)) (k .if3 .taken) _ (n .prototypes .ensures) _
+    (b .first-constant .ensures) _ (c .byte-at .ensures)
 
 returns-4 : tie.Need-returns-4
 returns-4 c =
-    let s = c .before .before .before in
-    value-other _ _ _ _ (granted _ _ (s .before .is-value .ensures) (s .if1 .left)) (c .before .if2 .left) (c .if3 .left)
+    let s : tie.Else1 = search in
+    let k : tie.Else2 = search in
+    value-other _ _ _ _ _ (granted _ _ (s .before .is-value .ensures) (s .if1 .left)) (k .if2 .left) (c .if3 .left)
 
 pub value-fits-spec : {M : Type 1} → statement M
 value-fits-spec =
@@ -33,5 +37,5 @@ value-fits-spec =
     returns
     (λ c κs. search needs)
     returns-2
-    (λ c κs. search needs) (λ c κs. search needs)
+    (λ c κs. search needs) (λ c κs. search needs) (λ c κs. search needs)
     returns-3 returns-4)

@@ -38,6 +38,10 @@ returns-8 : tie.Need-returns-8
 unfolding frameStep
 returns-8 c = rw (c .before .f2 .given .1) refl
 
+returns-9 : tie.Need-returns-9
+unfolding frameStep
+returns-9 c = rw (c .before .enum-told5 .given .1) (c .desc-step .ensures)
+
 pub step-on-spec : {M : Type 1} → statement M
 step-on-spec =
     tie.close
@@ -47,5 +51,5 @@ step-on-spec =
     (λ c. search needs) (λ c κs. search needs) (λ c. search needs) (λ c κs. search needs) (λ c. search needs)
     (λ c κs. search needs) (λ c. search needs) (λ c. search needs)
     returns-2
-    (λ c. search needs)
-    returns-3 returns-4 returns-5 returns-6 returns-7 returns-8)
+    (λ c. search needs) (λ c. search needs) (λ c κs. search needs)
+    returns-3 returns-4 returns-5 returns-6 returns-7 returns-8 returns-9)

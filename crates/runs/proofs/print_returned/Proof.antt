@@ -5,10 +5,10 @@ use Rattle.runs.proofs.print_returned.Statement.{statement}
 use Rattle.runs.proofs.print_returned.Tie as tie
 
 abbrev Inv-loop : tie.InvT-loop
-Inv-loop w kinds words const-words texts start n i₀ i = i ≤ n
+Inv-loop w kinds words const-words texts frames start n i₀ i = i ≤ n
 
 abbrev μ-loop : tie.MeasureT-loop
-μ-loop w kinds words const-words texts start n i₀ i = n - i
+μ-loop w kinds words const-words texts frames start n i₀ i = n - i
 
 pub print-returned-spec : {M : Type 1} → statement M
 print-returned-spec =

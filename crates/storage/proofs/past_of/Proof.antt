@@ -7,8 +7,8 @@ use Rattle.storage.proofs.Sizes.{str-small}
 use Rattle.storage.proofs.past_of.Statement.{statement}
 use Rattle.storage.proofs.past_of.Tie as tie
 
-add-t12 : tie.Need-add-t12
-add-t12 c = omega (arith, str-small _ (c .before .f .given .0 .0) (c .before .before .before .pre .0) (c .before .f .given .1))
+add-t13 : tie.Need-add-t13
+add-t13 c = omega (arith, str-small _ (c .before .f .given .0 .0) (c .before .before .before .pre .0) (c .before .f .given .1))
 
 returns : tie.Need-returns
 unfolding past
@@ -34,12 +34,17 @@ returns-6 : tie.Need-returns-6
 unfolding past
 returns-6 c = rw (c .enum-told5 .given .1) refl
 
+returns-7 : tie.Need-returns-7
+unfolding past
+returns-7 c = rw (c .enum-told6 .given .1) refl
+
 pub past-of-spec : {M : Type 1} → statement M
 past-of-spec =
     tie.close
     (tie.spec
     (λ c. search needs) (λ c. search needs) (λ c. search needs) (λ c. search needs) (λ c. search needs)
     (λ c. search needs)
-    add-t12
+    add-t13
     (λ c. search needs) (λ c. search needs) (λ c. search needs) (λ c. search needs) (λ c. search needs)
-    returns returns-2 returns-3 returns-4 returns-5 returns-6)
+    (λ c. search needs) (λ c. search needs)
+    returns returns-2 returns-3 returns-4 returns-5 returns-6 returns-7)

@@ -45,6 +45,10 @@ returns-6 : tie.Need-returns-6
 unfolding sizeOf
 returns-6 c = rw (c .enum-told4 .given .1) refl
 
+returns-7 : tie.Need-returns-7
+unfolding sizeOf
+returns-7 c = rw (c .enum-told5 .given .1) refl
+
 pub size-of-spec : {M : Type 1} → statement M
 size-of-spec =
     tie.close
@@ -53,5 +57,5 @@ size-of-spec =
     mul-result add-result
     (λ c. search needs)
     mul-result-2 add-result-2
-    (λ c. search needs) (λ c. search needs) (λ c. search needs)
-    returns returns-2 returns-3 returns-4 returns-5 returns-6)
+    (λ c. search needs) (λ c. search needs) (λ c. search needs) (λ c. search needs)
+    returns returns-2 returns-3 returns-4 returns-5 returns-6 returns-7)

@@ -95,7 +95,7 @@ past-of-requires c κs =
     let w = s .before .before .before .loop .inv in
     let h = s .before .before .loop-test .taken in (
       on-small (turn s) _ (on c),
-      (omega (arith, w .entries, w .few), (omega (arith, w .codes), (omega (arith, w .consts), omega (arith, w .texts)))),
+      (omega (arith, w .entries, w .few), (omega (arith, w .codes), (omega (arith, w .consts), (omega (arith, w .texts), omega (arith, w .descs))))),
     )
 
 size-of-requires-2 : tie.Need-size-of-requires-2 Inv-loop μ-loop

@@ -2,18 +2,19 @@
 use mathlib.Core.Path.{refl}
 use borrow.Author.Needs.{needs}
 use Rattle.checker.specs.Operations.{closes, nextOf}
-use Rattle.checker.specs.Rules.{carried, tidy, registersIn, constantsIn, targetsIn, prototypeInImage}
+use Rattle.checker.specs.Rules.{carried, tidy, registersIn, constantsIn, targetsIn, prototypeInImage, upvaluesIn}
 use Rattle.checker.proofs.Shapes.{bytes, shaped}
 use Rattle.checker.proofs.rules.decode_closure.Statement.{statement}
 use Rattle.checker.proofs.rules.decode_closure.Tie as tie
 
 returns : tie.Need-returns
-unfolding carried tidy registersIn constantsIn targetsIn nextOf prototypeInImage
+unfolding carried tidy registersIn constantsIn targetsIn nextOf prototypeInImage upvaluesIn
 returns c =
-    let s = c .before .before .before .before .before .before .before in
+    let x : tie.After-bytes-of = search in
+    let next : tie.After-next-inside = search in
     shaped closes _
-    (rw (s .next-inside .ensures, bytes _ _ (s .before .bytes-of .ensures)) at (c .judge .ensures))
-    refl refl refl refl refl refl (λ h. refl)
+    (rw (next .next-inside .ensures, bytes _ _ (x .bytes-of .ensures)) at (c .judge .ensures))
+    refl refl refl refl refl refl refl (λ h. refl)
 
 pub decode-closure-spec : {M : Type 1} → statement M
 decode-closure-spec =

@@ -2,18 +2,18 @@
 use mathlib.Core.Path.{refl}
 use borrow.Author.Needs.{needs}
 use Rattle.checker.specs.Operations.{loadsNil, nextOf}
-use Rattle.checker.specs.Rules.{carried, tidy, registersIn, constantsIn, targetsIn, prototypeInImage}
+use Rattle.checker.specs.Rules.{carried, tidy, registersIn, constantsIn, targetsIn, prototypeInImage, upvaluesIn}
 use Rattle.checker.proofs.Shapes.{bytes, shaped}
 use Rattle.checker.proofs.rules.decode_load_nil.Statement.{statement}
 use Rattle.checker.proofs.rules.decode_load_nil.Tie as tie
 
 returns : tie.Need-returns
-unfolding carried tidy registersIn constantsIn targetsIn nextOf prototypeInImage
+unfolding carried tidy registersIn constantsIn targetsIn nextOf prototypeInImage upvaluesIn
 returns c =
     let s = c .before .before .before .before .before in
     shaped loadsNil _
     (rw (s .next-inside .ensures, bytes _ _ (s .before .bytes-of .ensures)) at (c .judge .ensures))
-    refl refl refl refl refl refl (λ h. refl)
+    refl refl refl refl refl refl refl (λ h. refl)
 
 pub decode-load-nil-spec : {M : Type 1} → statement M
 decode-load-nil-spec =

@@ -2,19 +2,19 @@
 use mathlib.Core.Path.{refl}
 use borrow.Author.Needs.{needs}
 use Rattle.checker.specs.Operations.{loops, nextOf}
-use Rattle.checker.specs.Rules.{carried, tidy, registersIn, constantsIn, targetsIn, prototypeInImage}
+use Rattle.checker.specs.Rules.{carried, tidy, registersIn, constantsIn, targetsIn, prototypeInImage, upvaluesIn}
 use Rattle.checker.proofs.Places.{two, at-two}
 use Rattle.checker.proofs.Shapes.{bytes, shaped}
 use Rattle.checker.proofs.rules.decode_loop.Statement.{statement}
 use Rattle.checker.proofs.rules.decode_loop.Tie as tie
 
 returns : tie.Need-returns
-unfolding carried tidy registersIn constantsIn targetsIn nextOf prototypeInImage
+unfolding carried tidy registersIn constantsIn targetsIn nextOf prototypeInImage upvaluesIn
 returns c =
     let s = c .before .before .before .before .before .before in
     shaped loops _
     (rw (s .before .ahead .ensures, s .target-of .ensures, bytes _ _ (s .before .before .bytes-of .ensures)) at (c .judge .ensures))
-    refl refl refl refl (two _ _ _) refl (λ h. rw (at-two _ _ _ _ h))
+    refl refl refl refl (two _ _ _) refl refl (λ h. rw (at-two _ _ _ _ h))
 
 pub decode-loop-spec : {M : Type 1} → statement M
 decode-loop-spec =

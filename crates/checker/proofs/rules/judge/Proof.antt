@@ -66,16 +66,31 @@ returns-6 c =
 returns-7 : tie.Need-returns-7
 unfolding judged lowest
 returns-7 c =
-    let a = c .before .before .before .before .before .before .args in
+    let a = c .before .before .before .before .before .before .before .args in
     rw (
-      not-false (a .k10) (c .before .before .before .before .before .if1 .left),
-      not-false (a .k11) (c .before .before .before .before .if2 .left),
-      not-false (a .k12) (c .before .before .before .if3 .left),
-      not-false (a .k13) (c .before .before .if4 .left),
-      not-false (a .k14) (c .before .if5 .left),
-      not-false (a .k15) (c .if6 .left),
+      not-false (a .k10) (c .before .before .before .before .before .before .if1 .left),
+      not-false (a .k11) (c .before .before .before .before .before .if2 .left),
+      not-false (a .k12) (c .before .before .before .before .if3 .left),
+      not-false (a .k13) (c .before .before .before .if4 .left),
+      not-false (a .k14) (c .before .before .if5 .left),
+      not-false (a .k15) (c .before .if6 .left),
+      not-true (a .k16) (c .if7 .taken),
+    )
+
+returns-8 : tie.Need-returns-8
+unfolding judged lowest
+returns-8 c =
+    let a = c .before .before .before .before .before .before .before .args in
+    rw (
+      not-false (a .k10) (c .before .before .before .before .before .before .if1 .left),
+      not-false (a .k11) (c .before .before .before .before .before .if2 .left),
+      not-false (a .k12) (c .before .before .before .before .if3 .left),
+      not-false (a .k13) (c .before .before .before .if4 .left),
+      not-false (a .k14) (c .before .before .if5 .left),
+      not-false (a .k15) (c .before .if6 .left),
+      not-false (a .k16) (c .if7 .left),
     )
 
 pub judge-spec : {M : Type 1} → statement M
 judge-spec =
-    tie.close (tie.spec returns returns-2 returns-3 returns-4 returns-5 returns-6 returns-7)
+    tie.close (tie.spec returns returns-2 returns-3 returns-4 returns-5 returns-6 returns-7 returns-8)

@@ -29,6 +29,13 @@ put-values-requires c κs =
     let long = entry run .pre in
     values-room _ _ _ _ (returned .returned .ensures) _ (shown .shown .ensures) (answer-put _ long (answer .answer-line .ensures)) long
 
+-- `frames` has the length that it came with
+same-length : tie.Need-same-length
+same-length c =
+    let returned : tie.After-returned = search in
+    let run = ran (answered returned) in
+    run .run .kept .1 .1 .1 .1 .1 .0
+
 returns : tie.Need-returns
 returns c =
     let put : tie.After-put-values = search in
@@ -46,5 +53,6 @@ put-run-spec =
     (tie.spec
     (λ c κs. search needs) (λ c κs. search needs) (λ c κs. search needs) (λ c κs. search needs)
     put-values-requires
-    (λ c. search needs) (λ c. search needs) (λ c. search needs) (λ c. search needs)
+    same-length
+    (λ c. search needs) (λ c. search needs) (λ c. search needs)
     returns)

@@ -1,7 +1,8 @@
 -- `deletion::output::put_value` meets its contract: the line of the register's kind and word, at the front of the part from `at` on. Assumes nothing.
-use Prim.Native.Nat.{_+_}
+use Prim.Native.Nat.{ℕ, _+_}
 use native.Mathlib.Omega.{arith}
 use mathlib.Core.Path.{_≡_}
+use mathlib.Core.List.{List}
 use denote.Ref.{now}
 use Rattle.writer.specs.Writing.{lineOf}
 use Rattle.writer.specs.Putting.{Room}
@@ -26,12 +27,23 @@ module _ (c : tie.After-value-line) where
   abbrev text : tie.After-text-of
   text = search
 
-  told :
-      lineOf (valueBytes (kind .byte-at .result) (word .word-at .result) (now (text .text-of .result)))
-      ≡ valueLine (entry .args .const-words .now) (entry .args .texts .now) (entry .args .kinds .now) (entry .args .words .now) (entry .args .first + entry .args .i)
-  told = value-told _ _ _ _ _ _ _ _ (kind .byte-at .ensures) (word .word-at .ensures) (text .text-of .ensures)
+  abbrev held : tie.After-entry
+  held = search
 
-  room : Room (entry .args .out .now) (entry .args .at) (lineOf (valueBytes (kind .byte-at .result) (word .word-at .result) (now (text .text-of .result))))
+  abbrev prototype : tie.After-previous
+  prototype = search
+
+  abbrev bytes : List ℕ
+  bytes = valueBytes (kind .byte-at .result) (word .word-at .result) (now (text .text-of .result)) (prototype .previous .result)
+
+  told :
+      lineOf bytes
+      ≡ valueLine (entry .args .const-words .now) (entry .args .texts .now) (entry .args .frames .now) (entry .args .kinds .now) (entry .args .words .now) (entry .args .first + entry .args .i)
+  told =
+      value-told _ _ _ _ _ _ _ _ _ _ _ (kind .byte-at .ensures) (word .word-at .ensures) (text .text-of .ensures) (held .entry .ensures)
+      (prototype .previous .ensures)
+
+  room : Room (entry .args .out .now) (entry .args .at) (lineOf bytes)
   room = rw told (entry .pre)
 
 add-result : tie.Need-add-result
@@ -49,8 +61,8 @@ pub put-value-spec : {M : Type 1} → statement M
 put-value-spec =
     tie.close
     (tie.spec
-    (λ c κs. search needs) (λ c κs. search needs) (λ c κs. search needs) (λ c. search needs) (λ c. search needs)
-    (λ c. search needs) (λ c κs. search needs)
+    (λ c κs. search needs) (λ c κs. search needs) (λ c κs. search needs) (λ c κs. search needs) (λ c κs. search needs)
+    (λ c. search needs) (λ c. search needs) (λ c. search needs) (λ c κs. search needs)
     add-result
     (λ c. search needs)
     returns)

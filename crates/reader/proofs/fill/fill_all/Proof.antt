@@ -75,10 +75,11 @@ loop-again : tie.Need-loop-again Inv-loop μ-loop
 loop-again c =
     let b = c .before .before .before .before .before .before .before .before .before .before .before .before .before .before .before .before .before in
     let o = b .before .before .before .loop in
-    let l = b .before .before .before .before .before .before .before .before .before .before .before .before .before .before .args .s .now in
+    let g = b .before .before .before .before .before .before .before .before .before .before .before .before .before .before in
+    let l = g .args .s .now in
     let n = b .before .frame-at in
     let v = rw (n .ensures .list, first-cut l (o .at) (n .result .end) (n .ensures .text) (b .if1 .left)) at (o .inv .1) in
-    (n .ensures .within, left-turn _ _ _ _ _ _ _ _ _ _ _ _ _ _ _ _ _ _ _ _ v (c .before .before .before .before .before .before .before .before .before .before .put-frame .ensures))
+    (n .ensures .within, left-turn _ _ _ _ _ _ _ _ _ _ _ _ _ _ _ _ _ _ _ _ _ (g .pre) v (c .before .before .before .before .before .before .before .before .before .before .put-frame .ensures))
 
 same-length-6 : tie.Need-same-length-6 Inv-loop μ-loop
 same-length-6 c = c .before .loop .inv .1 .table .same ∙ c .before .before .before .before .put-word .kept .0

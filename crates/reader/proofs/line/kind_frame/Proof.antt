@@ -33,11 +33,29 @@ returns-4 c =
     (c .end-frame .ensures)
 
 returns-5 : tie.Need-returns-5
-unfolding kindBytes shape
+unfolding kindBytes
 returns-5 c =
-    let e = c .before .before .before .before .byte-at .ensures in
-    simp
-    (ne-eqb _ _ (λ d. c .before .before .before .if1 .left (e ∙ d)), ne-eqb _ _ (λ d. c .before .before .if2 .left (e ∙ d)), ne-eqb _ _ (λ d. c .before .if3 .left (e ∙ d)), ne-eqb _ _ (λ d. c .if4 .left (e ∙ d)))
+    let e = c .before .before .before .before .before .before .byte-at .ensures in
+    simp (
+      ne-eqb _ _ (λ d. c .before .before .before .before .before .if1 .left (e ∙ d)),
+      ne-eqb _ _ (λ d. c .before .before .before .before .if2 .left (e ∙ d)),
+      ne-eqb _ _ (λ d. c .before .before .before .if3 .left (e ∙ d)),
+      ne-eqb _ _ (λ d. c .before .before .if4 .left (e ∙ d)),
+      eq-eqb _ _ (sym e ∙ c .before .if5 .taken),
+    )
+    (c .desc-frame .ensures)
+
+returns-6 : tie.Need-returns-6
+unfolding kindBytes shape
+returns-6 c =
+    let e = c .before .before .before .before .before .byte-at .ensures in
+    simp (
+      ne-eqb _ _ (λ d. c .before .before .before .before .if1 .left (e ∙ d)),
+      ne-eqb _ _ (λ d. c .before .before .before .if2 .left (e ∙ d)),
+      ne-eqb _ _ (λ d. c .before .before .if3 .left (e ∙ d)),
+      ne-eqb _ _ (λ d. c .before .if4 .left (e ∙ d)),
+      ne-eqb _ _ (λ d. c .if5 .left (e ∙ d)),
+    )
 
 pub kind-frame-spec : {M : Type 1} → statement M
 kind-frame-spec =
@@ -50,4 +68,6 @@ kind-frame-spec =
     (λ c κs. search needs)
     returns-3
     (λ c κs. search needs)
-    returns-4 returns-5)
+    returns-4
+    (λ c κs. search needs)
+    returns-5 returns-6)

@@ -1,0 +1,45 @@
+-- `fitness::all_upvalues_fit` meets its contract: the upvalues below j fit. Assumes nothing.
+use mathlib.Core.Path.{_≡_}
+use mathlib.Core.Bool.{true}
+use Prim.Native.Nat.{_-_, _≤_}
+use native.Mathlib.Omega.{arith}
+use borrow.Author.Needs.{needs}
+use Rattle.fitness.specs.Fit.{upvalueFits}
+use Rattle.choices.specs.Below.{allBelow}
+use Rattle.choices.proofs.Below.{all-none, all-more, all-fails, all-end}
+use Rattle.choices.proofs.Choices.{denied, granted}
+use Rattle.fitness.proofs.all_upvalues_fit.Statement.{statement}
+use Rattle.fitness.proofs.all_upvalues_fit.Tie as tie
+
+abbrev Inv-loop : tie.InvT-loop
+Inv-loop frames e n j₀ j = (j ≤ 8) × (allBelow (upvalueFits frames e n) j ≡ true)
+
+abbrev μ-loop : tie.MeasureT-loop
+μ-loop frames e n j₀ j = 8 - j
+
+loop-holds : tie.Need-loop-holds Inv-loop μ-loop
+loop-holds c = (omega arith, all-none _)
+
+returns : tie.Need-returns Inv-loop μ-loop
+returns c = all-fails _ _ _ (c .before .before .loop-test .taken) (denied _ _ (c .before .upvalue-fits .ensures) (c .if1 .taken))
+
+add-j : tie.Need-add-j Inv-loop μ-loop
+add-j c = omega arith
+
+loop-less : tie.Need-loop-less Inv-loop μ-loop
+loop-less c = omega arith
+
+loop-again : tie.Need-loop-again Inv-loop μ-loop
+loop-again c =
+    (omega arith, all-more _ _ (c .before .before .before .loop .inv .1) (granted _ _ (c .before .upvalue-fits .ensures) (c .if1 .left)))
+
+returns-2 : tie.Need-returns-2 Inv-loop μ-loop
+returns-2 c = all-end _ _ _ (c .before .loop .inv .0) (c .loop-test .left) (c .before .loop .inv .1)
+
+pub all-upvalues-fit-spec : {M : Type 1} → statement M
+all-upvalues-fit-spec =
+    tie.close
+    (tie.spec
+    Inv-loop μ-loop loop-holds
+    (λ c κs. search needs)
+    returns add-j loop-less loop-again returns-2)
