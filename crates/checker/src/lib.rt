@@ -1,6 +1,8 @@
 // The checker: the rules 10 to 16 for one instruction, which `decode` tests as it works the operands out, and the
 // search over all instructions of all prototypes. The machine decodes by the same function, so what the checker
 // accepts is what the machine can carry out.
+#![tactic(auto)]
+
 mod next;
 mod operands;
 mod rules;

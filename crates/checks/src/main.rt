@@ -7,6 +7,8 @@
 //   a0.. d1.. b0.. c0.. e0..    a line of the case's image
 //   =t00012:00000000000000ff    cell 12 of the table, where the image is read, becomes ff (c code, k kinds, w words, x texts)
 //   .01211                      the storage is checked; each slice is one cell short (0), as published (1) or one longer (2)
+#![tactic(auto)]
+
 ghost use Rattle.std.specs.Prelude.{◌+◌, ◌≤◌, length};
 
 use checker::Checked;

@@ -2,6 +2,8 @@
 // With words on its command line, a budget and then the rule's arguments, it writes what `output_given` makes of it; what a
 // word stands for is proved too (`words`). No contract can say what a program reads or writes; so this is all that it does
 // besides. A program of this language ends with status 0 always: ./deletion, at the top, has statuses of its own.
+#![tactic(auto)]
+
 mod lines;
 mod output;
 mod words;

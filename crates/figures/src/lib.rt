@@ -1,4 +1,6 @@
 // Figures that arrive as text: document 02, 1/12.
+#![tactic(auto)]
+
 ghost use Rattle.std.specs.Prelude.{◌≡◌, suc, ◌+◌, ◌*◌, ◌%◌, ◌^◌, ◌<◌, ◌≤◌, min, false, length, drop, pos, negsuc};
 ghost use Rattle.std.specs.Float.Ieee.{minus};
 ghost use Rattle.std.specs.Float.Ieee.Exact.{HasValue};

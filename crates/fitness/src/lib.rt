@@ -1,5 +1,7 @@
 // Whether a state is fit to run, for any contents of the lent slices: document 01's list, test by test, and behind it what
 // document 02 says of entries, cells and activations.
+#![tactic(auto)]
+
 ghost use Rattle.std.specs.Prelude.{◌≡◌, ◌≤◌};
 ghost use Rattle.storage.specs.Layout.{storage_in};
 ghost use Rattle.storage.specs.Stored.{reads_back};

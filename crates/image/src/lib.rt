@@ -1,5 +1,7 @@
 // What reader, writer and storage share of the image: a frame as a value, the counting of frames in order, and an
 // instruction's five bytes as one number. The format itself is defined in specs/.
+#![tactic(auto)]
+
 ghost use Rattle.std.specs.Prelude.{◌≡◌};
 ghost use Rattle.image.specs.Instruction.{packed, operation_of, flags_of, a_of, b_of, c_of};
 ghost use Rattle.image.specs.Judge.{const_step, code_step, desc_step, frame_step};

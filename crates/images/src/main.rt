@@ -8,6 +8,8 @@
 //   # words              a case's name, written as it is
 //   00003 b00100;        so many times this text is appended to the image; `;` is LF, `!` CR, `%` the byte 0, `~` 255
 //   .01211               the image is read; each slice is one cell short (0), as published (1) or one cell longer (2)
+#![tactic(auto)]
+
 ghost use Rattle.std.specs.Prelude.{◌<◌};
 
 use image::Judged;

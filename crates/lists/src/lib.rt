@@ -1,6 +1,8 @@
 // Reading the lists of cases that the test programs play: where a line ends, the digits and numbers in it, and how much
 // of a slice a case lends. Every function takes any bytes and any place, so no caller owes a proof that a list is well
 // made: a byte past the end is 0.
+#![tactic(auto)]
+
 ghost use Rattle.std.specs.Prelude.{◌≡◌, ◌+◌, ◌-◌, ◌%◌, ◌≤◌, length, get_or, drop};
 ghost use Rattle.lists.specs.Lines.{before, digit_value, number_at, decimal_at};
 

@@ -1,5 +1,7 @@
 // The public entry points in one place: for any contents of what is lent there is one answer, and one content is left.
 // Those of other crates are handed on as they are, with their promises; `face` has all of them for C.
+#![tactic(auto)]
+
 mod face;
 
 ghost use Rattle.std.specs.Prelude.{◌≡◌, List, ℕ};

@@ -1,4 +1,6 @@
 // Reads an image into lent storage in two passes: judged first, so that a refusal leaves everything untouched.
+#![tactic(auto)]
+
 mod fill;
 mod hex;
 mod judge;

@@ -7,6 +7,8 @@
 // A line of the list is one of
 //   # words                     a program's name, written as it is
 //   a0.. d1.. b0.. c0.. e0..    a line of its image, e0 the last
+#![tactic(auto)]
+
 ghost use Rattle.std.specs.Prelude.{◌+◌, ◌≤◌, length};
 
 use checker::Checked;

@@ -1,5 +1,7 @@
 // Writes the answers to document 01's worked examples, a line for each: a value as its kind and its word, a run as its
 // number, its count and its place.
+#![tactic(auto)]
+
 use constant::{Answer, Value};
 use libc::STDOUT_FILENO;
 use number::Whole;

@@ -20,6 +20,8 @@
 //                          one kind and two words of arguments are lent; then each argument's kind and word, 2 and 16 digits
 //   !11111111:00000005     a run on budget 5
 //   ?11111111              how the machine stands
+#![tactic(auto)]
+
 ghost use Rattle.std.specs.Prelude.{◌≤◌};
 
 use checker::Checked;

@@ -1,5 +1,7 @@
 // The layout of a read image in lent slices: its published sizes, its fields by name, and the test behind 6, whether
 // any image reads to a storage's contents. specs/Layout says what lies where.
+#![tactic(auto)]
+
 ghost use Rattle.std.specs.Prelude.{◌≡◌, cond, leb, ◌+◌, ◌-◌, ◌/◌, ◌≤◌, ◌<◌};
 ghost use Rattle.storage.specs.Layout.{long_enough, storage_in};
 ghost use Rattle.storage.specs.Fields.{prototypes_of, field, registers_of, parameters_of, first_constant, first_instruction, descriptors_of, descriptor_of, constants_of, instructions_of, instruction_at, constant_kind, constant_word};

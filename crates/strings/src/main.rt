@@ -13,6 +13,8 @@
 //   ri000000000000000b1..     its results for the next left operand and the right ones in order, or for the only ones: `i`, `n`, `t`, `f`;
 //                             `1` or `2`, the operator's error by the operand that it names; `z`, a zero divisor's
 //   .                         the part's end
+#![tactic(auto)]
+
 ghost use Rattle.std.specs.Prelude.{◌<◌, ◌≤◌, length};
 
 use checker::{Binary, Compare, Instruction, Operand, Unary};

@@ -1,5 +1,7 @@
 // `Opt254` and `VarCount` of types.rs: a byte that is a number from 0 to 254, or none, written 255. Where the Rust
 // answers `Option`, an enum stands here; where it panics (a Some(255)), there is only the form that refuses.
+#![tactic(auto)]
+
 ghost use Rattle.std.specs.Prelude.{◌≡◌, not, eqb};
 ghost use Rattle.types.specs.Opt.{held_by, try_new, try_constant};
 

@@ -5,6 +5,8 @@
 // The values of a list lie in two slices: in `bytes` a kind for each of 256 values, then the strings' bytes; in `words`
 // a word for each of them, then for each string where its bytes lie. So the number of a string's constant is 256 more
 // than the value's own, and the two slices serve as `texts` and `const_words` too.
+#![tactic(auto)]
+
 use comparison::Compared;
 use constant::{Answer, BinaryOperatorError, Value};
 use libc::{STDIN_FILENO, STDOUT_FILENO};

@@ -1,5 +1,7 @@
 // Document 01's worked examples: W1 to W12 by the operators, W13 by the machine. `example` is proved to answer what the
 // document says: specs/Worked has the one claim about the one list.
+#![tactic(auto)]
+
 ghost use Rattle.std.specs.Prelude.{◌≡◌, get_or};
 ghost use Rattle.worked.specs.Thirteen.{ran_on};
 ghost use Rattle.worked.specs.Worked.{answers};

@@ -1,4 +1,6 @@
 // Writes a storage back as the image that reads to it.
+#![tactic(auto)]
+
 mod hex;
 mod line;
 
