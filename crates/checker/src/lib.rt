@@ -20,7 +20,7 @@ use storage::Validity;
 
 // What an instruction may name: registers R, constants K and instructions n of its prototype, the image's prototypes, and
 // the upvalues of its prototype, as many as that has descriptors.
-#[derive(Drop)]
+#[derive(Clone, Copy)]
 pub struct Limits {
     pub registers: usize,
     pub constants: usize,
@@ -31,7 +31,7 @@ pub struct Limits {
 
 // An instruction where it stands: the limits of its prototype, its place there, and its word. A rule that looks at more, as
 // another instruction or a descriptor, adds a field here, which `site_of` fills, and no parameter to eighteen functions.
-#[derive(Drop)]
+#[derive(Clone, Copy)]
 pub struct Site {
     pub limits: Limits,
     pub place: usize,
@@ -42,13 +42,13 @@ pub struct Site {
     pub bare: bool,
 }
 
-#[derive(Drop)]
+#[derive(Clone, Copy)]
 pub enum Operand {
     Register(usize),
     Constant(usize),
 }
 
-#[derive(Drop)]
+#[derive(Clone, Copy)]
 pub enum Unary {
     Move,
     Not,
@@ -56,14 +56,14 @@ pub enum Unary {
     BitNot,
 }
 
-#[derive(Drop)]
+#[derive(Clone, Copy)]
 pub enum Compare {
     Eq,
     Less,
     LessEq,
 }
 
-#[derive(Drop)]
+#[derive(Clone, Copy)]
 pub enum Binary {
     Add,
     Sub,
@@ -79,7 +79,7 @@ pub enum Binary {
 }
 
 // An instruction with its operands worked out; `next` and `target` are places.
-#[derive(Drop)]
+#[derive(Clone, Copy)]
 pub enum Instruction {
     Unary(Unary, usize, usize),
     LoadConstant(usize, usize),
@@ -104,7 +104,7 @@ pub enum Instruction {
 }
 
 // What an instruction is to the activations around it: only a Call lets a caller wait, only a Return ends a machine.
-#[derive(Drop)]
+#[derive(Clone, Copy)]
 pub enum Class {
     // A Call: its function's register, where the returned values go, and how many it asks for.
     Calls(usize, usize),
@@ -114,7 +114,7 @@ pub enum Class {
 }
 
 // The checker's answer: accepted, or the number, the prototype and the instruction.
-#[derive(Drop)]
+#[derive(Clone, Copy)]
 pub enum Checked {
     Accepted,
     Refused(u8, usize, usize),

@@ -7,7 +7,7 @@ ghost use Rattle.checker.specs.Steps.{place_in};
 use crate::{Site, operands};
 
 // A place and whether it lies in 0 to n - 1; the number of one that lies outside need not fit and is left at 0.
-#[derive(Drop)]
+#[derive(Clone, Copy)]
 pub(crate) struct Place {
     pub(crate) inside: bool,
     pub(crate) at: usize,

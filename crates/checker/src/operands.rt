@@ -8,7 +8,7 @@ ghost use Rattle.checker.specs.Steps.{BytesOf};
 use crate::{Operand, Site};
 
 // Its bytes but the operation.
-#[derive(Drop)]
+#[derive(Clone, Copy)]
 pub(crate) struct Bytes {
     pub(crate) flags: usize,
     pub(crate) a: usize,

@@ -40,7 +40,7 @@ pub(crate) fn argument_of(word: &[u8]) -> Value
 }
 
 // A budget, or none.
-#[derive(Drop)]
+#[derive(Clone, Copy)]
 pub(crate) enum Budget {
     Of(u32),
     None,

@@ -18,7 +18,7 @@ ghost use Rattle.figures.specs.Figured.{read_as, figured_of};
 use constant::Value;
 
 // What a text reads as.
-#[derive(Drop)]
+#[derive(Clone, Copy)]
 pub enum Figure {
     Integer(i64),
     Number(f64),
@@ -188,7 +188,7 @@ fn digit(b: u8) -> u64
 
 // The digits so far: their value and the value up to the last that is not 0, both at most 2^63 + 1; how many zeros
 // follow that one; and how many digits there are.
-#[derive(Drop)]
+#[derive(Clone, Copy)]
 struct Tally {
     value: u64,
     kept: u64,
@@ -265,7 +265,7 @@ fn digits_of(s: &[u8]) -> Tally
 }
 
 // Hexadecimal digits: their value, wrapped, and how many there are.
-#[derive(Drop)]
+#[derive(Clone, Copy)]
 struct Hex {
     value: u64,
     count: usize,

@@ -8,7 +8,7 @@ ghost use Rattle.image.specs.Judge.{const_step, code_step, desc_step, frame_step
 ghost use Rattle.image.specs.Frames.{payload, most_of};
 
 // A line's frame. A string's bytes stay in the line; a frame that is none is Bad, with the refusal's number.
-#[derive(Drop)]
+#[derive(Clone, Copy)]
 pub enum Frame {
     // Registers, parameters.
     Open(u8, u8),
@@ -26,7 +26,7 @@ pub enum Frame {
 }
 
 // What has been counted: prototypes in all; constants, instructions and descriptors of the last one.
-#[derive(Drop)]
+#[derive(Clone, Copy)]
 pub struct Counts {
     pub protos: usize,
     pub consts: usize,
@@ -35,7 +35,7 @@ pub struct Counts {
 }
 
 // What one frame more makes of the counts.
-#[derive(Drop)]
+#[derive(Clone, Copy)]
 pub enum Step {
     On(Counts),
     Done,
@@ -43,7 +43,7 @@ pub enum Step {
 }
 
 // What becomes of an image: accepted with its number of prototypes, or refused with the number and the line.
-#[derive(Drop)]
+#[derive(Clone, Copy)]
 pub enum Judged {
     Accepted(usize),
     Refused(u8, usize),

@@ -60,7 +60,7 @@ pub fn check_answer(r: Checked) -> Outcome
 // ---- results
 
 // What a machine stands at, and of a finished one the first register that its Return names and how many values.
-#[derive(Drop)]
+#[derive(Clone, Copy)]
 pub struct Values {
     pub answer: Outcome,
     pub first: usize,
@@ -120,7 +120,7 @@ pub fn returned(
 }
 
 // A string's place in the texts: where its bytes begin, and how many they are; or the refusal's number.
-#[derive(Drop)]
+#[derive(Clone, Copy)]
 pub enum Span {
     At(usize, usize),
     Refused(u8),

@@ -160,7 +160,7 @@ fn frame_of(s: &[u8]) -> Frame
 }
 
 // A line's frame, where its text ends (at its LF, or with the image), and where the next line starts.
-#[derive(Drop)]
+#[derive(Clone, Copy)]
 pub(crate) struct Next {
     pub(crate) frame: Frame,
     pub(crate) end: usize,

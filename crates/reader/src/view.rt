@@ -5,7 +5,7 @@ ghost use Rattle.reader.specs.Steps.{Advance};
 use crate::line;
 use crate::line::Next;
 
-#[derive(Drop)]
+#[derive(Clone, Copy)]
 pub(crate) struct LineReader<'a> {
     pub(crate) image: &'a [u8],
     pub(crate) at: usize,

@@ -162,7 +162,7 @@ fn print_place(o: Outcome) {
 // ---- a program
 
 // How many returned, and how many raised an error.
-#[derive(Drop)]
+#[derive(Clone, Copy)]
 struct Tally {
     returned: u64,
     raised: u64,
@@ -285,7 +285,7 @@ fn echo(line: &[u8]) {
 }
 
 // Where the image begins that the next line belongs to, and the tally so far.
-#[derive(Drop)]
+#[derive(Clone, Copy)]
 struct Played {
     start: usize,
     tally: Tally,

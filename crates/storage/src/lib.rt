@@ -198,7 +198,7 @@ pub fn constant_word(
 
 // A cursor over the storage: where the next entry is; how many instructions, constants and bytes of texts are passed; and
 // how many descriptors of the prototype that was opened last.
-#[derive(Drop)]
+#[derive(Clone, Copy)]
 pub struct Tops {
     pub entries: usize,
     pub codes: usize,
@@ -426,7 +426,7 @@ fn past_of(t: Tops, f: Frame) -> Tops
 }
 
 // Whether some image reads to a storage: its number of bytes, or 6.
-#[derive(Drop)]
+#[derive(Clone, Copy)]
 pub enum Validity {
     Bytes(usize),
     Six,

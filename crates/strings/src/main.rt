@@ -38,7 +38,7 @@ const DEST: usize = 200;
 
 // `i` or `n` and the word; `t`; `f`; `e`, of an operator with the error's number and the operand that it names. No list
 // has the tag 0.
-#[derive(Drop)]
+#[derive(Clone, Copy)]
 struct Outcome {
     tag: u8,
     word: u64,
@@ -155,7 +155,7 @@ fn expected(line: &[u8], at: usize, error: u64) -> Outcome {
 
 // ---- counts
 
-#[derive(Drop)]
+#[derive(Clone, Copy)]
 struct Tally {
     compared: u64,
     different: u64,
@@ -292,7 +292,7 @@ fn instruction_of(operation: u64, i: usize, j: usize) -> Instruction {
 }
 
 // What is asked of a row: the operation, its error's number, and the row's own number.
-#[derive(Drop)]
+#[derive(Clone, Copy)]
 struct Row {
     operation: u64,
     error: u64,
@@ -352,7 +352,7 @@ fn compare_row(
 // ---- the list
 
 // How far a list is: its operands, the row that comes next, and what was compared in this part and in those before it.
-#[derive(Drop)]
+#[derive(Clone, Copy)]
 struct Run {
     operands: usize,
     row: Row,

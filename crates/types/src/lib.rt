@@ -6,20 +6,20 @@ ghost use Rattle.std.specs.Prelude.{◌≡◌, not, eqb};
 ghost use Rattle.types.specs.Opt.{held_by, try_new, try_constant};
 
 // The Rust's `Option<u8>`.
-#[derive(Drop)]
+#[derive(Clone, Copy)]
 pub enum MaybeByte {
     Some(u8),
     None,
 }
 
 // A byte that is a number from 0 to 254, or none: 255.
-#[derive(Drop)]
+#[derive(Clone, Copy)]
 pub struct Opt254 {
     pub byte: u8,
 }
 
 // The Rust's `Option<Opt254>`: 255 is no number that it can hold.
-#[derive(Drop)]
+#[derive(Clone, Copy)]
 pub enum MaybeOpt254 {
     Is(Opt254),
     Refused,
@@ -78,13 +78,13 @@ impl Opt254 {
 }
 
 // A count of arguments or returned values: a number from 0 to 254, or variable, written 255.
-#[derive(Drop)]
+#[derive(Clone, Copy)]
 pub struct VarCount {
     pub count: Opt254,
 }
 
 // The Rust's `Option<VarCount>`.
-#[derive(Drop)]
+#[derive(Clone, Copy)]
 pub enum MaybeVarCount {
     Is(VarCount),
     Refused,

@@ -137,7 +137,7 @@ fn read_values(
 
 // A result: `i` or `n` and the word; `t`; `f`; `e`, the error's number and the operand that it names. No list has the
 // tag 0.
-#[derive(Drop)]
+#[derive(Clone, Copy)]
 struct Outcome {
     tag: u8,
     word: u64,
@@ -272,7 +272,7 @@ fn expected(input: &mut [u8], at: &mut usize, end: &mut usize, error: u64) -> Ou
 
 // ---- the replay
 
-#[derive(Drop)]
+#[derive(Clone, Copy)]
 struct Tally {
     compared: u64,
     different: u64,
@@ -347,7 +347,7 @@ fn finish(t: Tally) {
 }
 
 // How many values the list has, and what all operators so far came to.
-#[derive(Drop)]
+#[derive(Clone, Copy)]
 struct Run {
     values: usize,
     total: Tally,

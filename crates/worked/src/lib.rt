@@ -12,7 +12,7 @@ use step::Outcome;
 
 // What an example tells: an operator's answer, the number that an integer becomes, whether two values are equal, the
 // integer that a number is, a run's answer, what a register holds.
-#[derive(Drop)]
+#[derive(Clone, Copy)]
 pub enum Told {
     Operator(Answer),
     Number(f64),
@@ -24,7 +24,7 @@ pub enum Told {
 }
 
 // What a run of W13's machine tells: its answer, and what registers 0 and 3 hold.
-#[derive(Drop)]
+#[derive(Clone, Copy)]
 pub struct Ran {
     pub answer: Outcome,
     pub first: Value,

@@ -15,7 +15,7 @@ ghost use Rattle.writer.specs.Putting.{Room, Put, Slim, Narrow};
 use storage::Validity;
 
 // How many bytes were written, or the refusal's number.
-#[derive(Drop)]
+#[derive(Clone, Copy)]
 pub enum Wrote {
     Bytes(usize),
     Refused(u8),
