@@ -1,0 +1,6 @@
+-- `storage::constant_kind` meets its contract: the read is at the first constant's place and c. Assumes nothing.
+use borrow.Author.Rules.{rules}
+use Rattle.storage.proofs.constant_kind.Goals as goal
+
+pub returns : goal.returns
+returns c = rw (← c.first_constant-first.ensures) c.byte_at.ensures
