@@ -8,7 +8,7 @@ ghost use Rattle.storage.specs.Stored.{reads_back};
 ghost use Rattle.state.specs.Frames.{depth_in, base_of};
 ghost use Rattle.fitness.specs.Fit.{mark_fits, decoded_at, is_call, is_return, there_in, before_in, waits_in, stack_fits, end_fits, value_fits, register_fits, values_fit, upvalue_fits, entry_fits, cell_fits, closure_fits, closures_fit, fit_of};
 ghost use Rattle.choices.specs.Below.{all_below};
-ghost use Rattle.state.specs.States.{state_in};
+ghost use Rattle.state.specs.States.{state_seen};
 
 use checker::{Class, Instruction};
 use storage::Validity;
@@ -225,7 +225,7 @@ fn values_fit(
     words: &[u64],
 ) -> bool
     requires { base_of table.now frames.now (depth_in frames.now) ≤ 2048 }
-    ensures { result ≡ values_fit table.now const_kinds.now (state_in frames kinds words) }
+    ensures { result ≡ values_fit table.now const_kinds.now (state_seen frames kinds words) }
 {
     let depth = state::depth(frames);
     let end = state::base_of(table, frames, depth);
@@ -298,7 +298,7 @@ fn cell_fits(
     end: usize,
     c: usize,
 ) -> bool
-    ensures { result ≡ cell_fits table.now const_kinds.now (state_in frames kinds words) end c }
+    ensures { result ≡ cell_fits table.now const_kinds.now (state_seen frames kinds words) end c }
 {
     let x = cells::cell(frames, c);
     if x == 0 {
@@ -328,7 +328,7 @@ fn all_cells_fit(
     words: &[u64],
     end: usize,
 ) -> bool
-    ensures { result ≡ all_below (cell_fits table.now const_kinds.now (state_in frames kinds words) end) 128 }
+    ensures { result ≡ all_below (cell_fits table.now const_kinds.now (state_seen frames kinds words) end) 128 }
 {
     let mut c: usize = 0;
     while c < state::CELLS {
@@ -380,7 +380,7 @@ fn closures_fit(
     words: &[u64],
 ) -> bool
     requires { base_of table.now frames.now (depth_in frames.now) ≤ 2048 }
-    ensures { result ≡ closures_fit table.now const_kinds.now (state_in frames kinds words) }
+    ensures { result ≡ closures_fit table.now const_kinds.now (state_seen frames kinds words) }
 {
     if !all_entries_fit(table, frames) {
         return false;
@@ -405,7 +405,7 @@ pub fn fit(
     kinds: &[u8],
     words: &[u64],
 ) -> bool
-    ensures { result ≡ fit_of (storage_in table code const_kinds const_words texts) (state_in frames kinds words) }
+    ensures { result ≡ fit_of (storage_in table code const_kinds const_words texts) (state_seen frames kinds words) }
 {
     if !storage::is_long_enough(table, code, const_kinds, const_words, texts) {
         return false;

@@ -2,8 +2,8 @@
 // called. Each returns the number, and writes the number, the count, the prototype, the instruction or line and the
 // operand to `answer`.
 ghost use Rattle.std.specs.Prelude.{◌≡◌, ◌%◌, ◌^◌, set};
-ghost use Rattle.storage.specs.Layout.{storage_in, storage_out};
-ghost use Rattle.state.specs.States.{state_in, state_out};
+ghost use Rattle.storage.specs.Layout.{storage_in, storage_old, storage_out};
+ghost use Rattle.state.specs.States.{state_in, state_seen, state_out};
 ghost use Rattle.machine.specs.Face.{said, saying, saying5, saying6, leaving, bytes_told, text_answer, version, dm_read, dm_write, dm_check, dm_start, dm_run, dm_returned, dm_text};
 
 use crate::Span;
@@ -77,7 +77,7 @@ pub extern "C" fn dm_read(
     texts: &mut [u8],
     answer: &mut [u32],
 ) -> u32
-    ensures { leaving (said result answer.new) (storage_out table code const_kinds const_words texts) ≡ dm_read image.now (storage_in table code const_kinds const_words texts) answer.old }
+    ensures { leaving (said result answer.new) (storage_out table code const_kinds const_words texts) ≡ dm_read image.now (storage_old table code const_kinds const_words texts) answer.old }
 {
     if answer.len() < ANSWER {
         return 5;
@@ -210,7 +210,7 @@ pub extern "C" fn dm_returned(
     words: &[u64],
     answer: &mut [u32],
 ) -> u32
-    ensures { said result answer.new ≡ dm_returned (storage_in table code const_kinds const_words texts) (state_in frames kinds words) answer.old }
+    ensures { said result answer.new ≡ dm_returned (storage_in table code const_kinds const_words texts) (state_seen frames kinds words) answer.old }
 {
     if answer.len() < ANSWER {
         return 60;

@@ -6,7 +6,7 @@ mod face;
 
 ghost use Rattle.std.specs.Prelude.{◌≡◌, List, ℕ};
 ghost use Rattle.storage.specs.Layout.{storage, storage_in};
-ghost use Rattle.state.specs.States.{state_in};
+ghost use Rattle.state.specs.States.{state_seen};
 ghost use Rattle.machine.specs.Answers.{read_answer, write_answer, check_answer};
 ghost use Rattle.machine.specs.Results.{named, returned_of, is_string, span_of};
 
@@ -96,7 +96,7 @@ pub fn returned(
     kinds: &[u8],
     words: &[u64],
 ) -> Values
-    ensures { result ≡ returned_of (storage_in table code const_kinds const_words texts) (state_in frames kinds words) }
+    ensures { result ≡ returned_of (storage_in table code const_kinds const_words texts) (state_seen frames kinds words) }
 {
     let o = vm::standing(
         table,

@@ -7,7 +7,7 @@ mod judge;
 mod line;
 mod view;
 
-ghost use Rattle.storage.specs.Layout.{storage_in, storage_out};
+ghost use Rattle.storage.specs.Layout.{storage_old, storage_out};
 ghost use Rattle.reader.specs.Reading.{Read};
 
 use image::Judged;
@@ -20,7 +20,7 @@ pub fn read(
     const_words: &mut [u64],
     texts: &mut [u8],
 ) -> Judged
-    ensures { Read image.now result (storage_in table code const_kinds const_words texts) (storage_out table code const_kinds const_words texts) }
+    ensures { Read image.now result (storage_old table code const_kinds const_words texts) (storage_out table code const_kinds const_words texts) }
 {
     let enough = storage::is_long_enough(table, code, const_kinds, const_words, texts);
     if !enough {

@@ -8,7 +8,7 @@
 --   texts   the strings' bytes, one after the other
 use Rattle.std.specs.Prelude.{ℕ, ◌+◌, ◌*◌, Bool, false, cond, List, [], ◌∷◌, ◌++◌, length, drop, replicate, leb}
 use Rattle.std.proofs.lemmas.List.Edits.{sets}
-use Rattle.slices.specs.Lent.{Slice, at_call, at_return}
+use Rattle.slices.specs.Lent.{Slice, MutSlice, seen, at_call, at_return}
 use Rattle.storage.specs.Fields.{table_slots, descriptors_place}
 use Rattle.image.specs.Frames.{F, opens, const, str, code, ends, bad, desc}
 
@@ -22,11 +22,14 @@ pub record Storage : Type 0 where
 abbrev pub storage : List ℕ → List ℕ → List ℕ → List ℕ → List ℕ → Storage
 storage t c k w x = record { table = t; code = c; kinds = k; words = w; texts = x }
 
--- what five lent slices hold, before and after
+-- what five slices hold that are lent to be read; and of five that are lent to be written, before and after
 abbrev pub storage_in : Slice → Slice → Slice → Slice → Slice → Storage
-storage_in t c k w x = storage (at_call t) (at_call c) (at_call k) (at_call w) (at_call x)
+storage_in t c k w x = storage (seen t) (seen c) (seen k) (seen w) (seen x)
 
-abbrev pub storage_out : Slice → Slice → Slice → Slice → Slice → Storage
+abbrev pub storage_old : MutSlice → MutSlice → MutSlice → MutSlice → MutSlice → Storage
+storage_old t c k w x = storage (at_call t) (at_call c) (at_call k) (at_call w) (at_call x)
+
+abbrev pub storage_out : MutSlice → MutSlice → MutSlice → MutSlice → MutSlice → Storage
 storage_out t c k w x = storage (at_return t) (at_return c) (at_return k) (at_return w) (at_return x)
 
 -- ---- what one frame appends

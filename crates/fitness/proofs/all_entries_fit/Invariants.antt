@@ -1,0 +1,16 @@
+use mathlib.Core.Path.{◌≡◌}
+use mathlib.Core.Bool.{true}
+use Prim.Native.Nat.{◌-◌, ◌≤◌}
+use native.Mathlib.Omega.{arith}
+use borrow.Author.Rules.{rules}
+use Rattle.fitness.specs.Fit.{entry_fits}
+use Rattle.choices.specs.Below.{all_below}
+use Rattle.choices.proofs.Below.{all_none, all_more, all-fails, all_end}
+use Rattle.choices.proofs.Choices.{denied, granted}
+use Rattle.fitness.proofs.all_entries_fit.Given as goal
+
+abbrev pub invariant-loop-e : goal.invariant-loop-e
+invariant-loop-e l = (l.e ≤ 64) × (all_below (entry_fits l.table l.frames) l.e ≡ true)
+
+abbrev pub decreases-loop-e : goal.decreases-loop-e
+decreases-loop-e l = 64 - l.e
