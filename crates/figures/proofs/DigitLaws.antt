@@ -1,5 +1,5 @@
 -- For readers: the significand and its zeros are the digits' value without its trailing zeros (`digits_value`, `no_trailing_zero`). Assumes nothing.
-use Rattle.std.proofs.Common.{◌≡◌, ℕ, zero, suc, ◌+◌, ◌-◌, ◌*◌, ◌%◌, ◌^◌, ◌<◌, ◌⊎◌, List, [], ◌∷◌, ◌++◌, sym, refl, ap, ◌∙◌, inr, add-zero, mul_assoc, pow-suc, mul-one, arith}
+use Rattle.std.proofs.Common.{◌≡◌, ℕ, zero, suc, ◌+◌, ◌*◌, ◌%◌, ◌^◌, ◌<◌, ◌⊎◌, List, [], ◌∷◌, ◌++◌, sym, refl, ap, ◌∙◌, inr, add-zero, mul_assoc, pow-suc, mul-one, arith}
 use Rattle.figures.specs.Texts.{value_from, significand, zeros}
 
 -- the value of all digits is d × 10 ^ z
