@@ -1,16 +1,12 @@
 -- What a Return names, and what a machine that has not finished names. Assumes nothing.
 use Prim.Native.Nat.{ℕ}
 use mathlib.Core.Path.{◌≡◌, refl}
-use mathlib.Core.List.{List, [], ◌∷◌}
 use borrow.Author.Tests.{eq-eqb, ne_eqb}
-use denote.Enum.Declared.{tag_of}
-use types.Run.{OneOf, miss}
 use Rattle.storage.specs.Layout.{Storage}
 use Rattle.checker.specs.Decode.{class_of}
 use Rattle.checker.specs.declared.Instruction.{Instruction}
 use Rattle.checker.specs.declared.Class.{Class}
 use Rattle.checker.specs.declared.Class.TheVariants.{Calls, Returns, Other}
-use Rattle.checker.specs.contracts.Class.{the_type}
 use Rattle.fitness.specs.Fit.{decoded_at}
 use Rattle.state.specs.States.{State}
 use Rattle.step.specs.Run.{standing_of}
@@ -18,14 +14,11 @@ use Rattle.step.specs.declared.Outcome.{Outcome}
 use Rattle.machine.specs.Results.{returned, named, returned_of}
 use Rattle.machine.specs.declared.Values.{Values}
 
--- the classes beside a Return's
-abbrev others : List ℕ
-others = 0 ∷ 2 ∷ []
-
-pub none_named : (o : Outcome) (c : Class) → OneOf others (tag_of the_type c) → returned o 0 0 ≡ named o c
+-- of the classes beside a Return's
+pub none_named : (o : Outcome) (c : Class) → ((start n : ℕ) → c ≡ Returns start n → ⊥) → returned o 0 0 ≡ named o c
 unfolding named
 none_named o (Calls f r) h = refl
-none_named o (Returns s n) h = absurd (miss others 1 tt h)
+none_named o (Returns s n) h = absurd (h s n refl)
 none_named o Other h = refl
 
 pub return_named : (o : Outcome) (c : Class) (s n : ℕ) → c ≡ Returns s n → returned o s n ≡ named o c

@@ -1,6 +1,6 @@
-// The entry points for C, in the static library under their plain names; include/deletion_machine.h says how they are
-// called. Each returns the number, and writes the number, the count, the prototype, the instruction or line and the
-// operand to `answer`.
+// What the entry points for C do, which the static library has under these names (`machine_c`); include/deletion_machine.h
+// says how they are called. Each returns the number, and writes the number, the count, the prototype, the instruction or
+// line and the operand to `answer`.
 ghost use Rattle.std.specs.Prelude.{◌≡◌, ◌%◌, ◌^◌, set};
 ghost use Rattle.storage.specs.Layout.{storage_in, storage_old, storage_out};
 ghost use Rattle.state.specs.States.{state_in, state_seen, state_out};
@@ -60,15 +60,13 @@ fn tell6(answer: &mut [u32], o: Outcome, x: usize, y: usize) -> u32
 
 // ---- the functions
 
-#[unsafe(no_mangle)]
-pub extern "C" fn dm_version() -> u32
+pub fn dm_version() -> u32
     ensures { result ≡ version }
 {
     300
 }
 
-#[unsafe(no_mangle)]
-pub extern "C" fn dm_read(
+pub fn dm_read(
     image: &[u8],
     table: &mut [u64],
     code: &mut [u64],
@@ -95,8 +93,7 @@ fn bytes_of(r: Wrote) -> usize
     }
 }
 
-#[unsafe(no_mangle)]
-pub extern "C" fn dm_write(
+pub fn dm_write(
     table: &[u64],
     code: &[u64],
     const_kinds: &[u8],
@@ -114,8 +111,7 @@ pub extern "C" fn dm_write(
     tell5(answer, crate::write_answer(r), bytes_of(r))
 }
 
-#[unsafe(no_mangle)]
-pub extern "C" fn dm_check(
+pub fn dm_check(
     table: &[u64],
     code: &[u64],
     const_kinds: &[u8],
@@ -132,8 +128,7 @@ pub extern "C" fn dm_check(
     tell(answer, crate::check_answer(r))
 }
 
-#[unsafe(no_mangle)]
-pub extern "C" fn dm_start(
+pub fn dm_start(
     table: &[u64],
     code: &[u64],
     const_kinds: &[u8],
@@ -166,8 +161,7 @@ pub extern "C" fn dm_start(
     tell(answer, crate::check_answer(r))
 }
 
-#[unsafe(no_mangle)]
-pub extern "C" fn dm_run(
+pub fn dm_run(
     table: &[u64],
     code: &[u64],
     const_kinds: &[u8],
@@ -198,8 +192,7 @@ pub extern "C" fn dm_run(
     tell(answer, o)
 }
 
-#[unsafe(no_mangle)]
-pub extern "C" fn dm_returned(
+pub fn dm_returned(
     table: &[u64],
     code: &[u64],
     const_kinds: &[u8],
@@ -242,8 +235,7 @@ fn tell_span(answer: &mut [u32], r: Span) -> u32
     }
 }
 
-#[unsafe(no_mangle)]
-pub extern "C" fn dm_text(
+pub fn dm_text(
     table: &[u64],
     code: &[u64],
     const_kinds: &[u8],

@@ -2,7 +2,7 @@
 // Those of other crates are handed on as they are, with their promises; `face` has all of them for C.
 #![tactic(auto)]
 
-mod face;
+pub mod face;
 
 ghost use Rattle.std.specs.Prelude.{◌≡◌, List, ℕ};
 ghost use Rattle.storage.specs.Layout.{storage, storage_in};

@@ -17,8 +17,7 @@ use Rattle.step.specs.declared.Outcome.{Outcome}
 use Rattle.worked.specs.Thirteen.{thirteen_text, thirteen_stored, begins, ends_on, ran_on, register, told_of}
 use Rattle.worked.specs.Thirteen as thirteen
 use borrow.Author.Rules.{rules}
-use Rattle.worked.proofs.run_thirteen.Statement.{statement}
-use Rattle.worked.proofs.run_thirteen.Tie as tie
+use Rattle.worked.proofs.run_thirteen.Goals as goal
 
 -- what the reader leaves, by its two fields
 left_as : {image : List ℕ} {j : Judged} {S S' : Storage} → Read image j S S' → S' ≡ left_of (read_of image S) (frames_of image) S
@@ -41,25 +40,9 @@ ran-as : {o : Outcome} {s : State} {u v : Value} (budget : ℕ) → ended o s �
 unfolding ran_on
 ran-as budget h e f = rw e (rw f (ap told_of h))
 
-returns : tie.Need-returns
+pub returns : goal.returns
 unfolding thirteen.thirteen_frames thirteen_text frames.payload write.hex_digit write.hex_of write.word_bytes write.frame_bytes write.written
 returns c =
-    let run = c.before.before.before.before.before in
-    let start = run.before.before.before.before.before.before.before.before.before.before.before.before in
-    let read = start.before.before.before.before.before.before.before.before.before.before.before.before.before.before.before.before in
-    let image = stored-as read.read.ensures in
-    let begun = begins_as image start.start.ensures in
-    ran-as _ (ends_as _ image begun run.run.ensures) c.before.value_of_lem.ensures c.value-of2.ensures
-
-pub run-thirteen-spec : {M : Type 1} → statement M
-run-thirteen-spec =
-    tie.close
-    (tie.spec
-    (λ c. search rules) (λ c. search rules) (λ c. search rules) (λ c. search rules) (λ c. search rules)
-    (λ c. search rules) (λ c κs. search rules) (λ c. search rules) (λ c. search rules) (λ c. search rules)
-    (λ c. search rules) (λ c. search rules) (λ c. search rules) (λ c. search rules) (λ c. search rules)
-    (λ c. search rules) (λ c. search rules) (λ c κs. search rules) (λ c. search rules) (λ c. search rules)
-    (λ c. search rules) (λ c. search rules) (λ c. search rules) (λ c. search rules) (λ c. search rules)
-    (λ c. search rules) (λ c κs. search rules) (λ c. search rules) (λ c. search rules) (λ c κs. search rules)
-    (λ c. search rules) (λ c. search rules) (λ c κs. search rules)
-    returns)
+    let image = stored-as c.read.ensures in
+    let begun = begins_as image c.start.ensures in
+    ran-as _ (ends_as _ image begun c.run-answer.ensures) c.value_of_lem.ensures c.value_of-2.ensures

@@ -1,0 +1,11 @@
+-- `machine::read_answer` meets its contract: case by case of the reader's answer. Assumes nothing.
+use borrow.Author.Rules.{rules}
+use Rattle.machine.proofs.read_answer.Goals as goal
+
+pub returns-in-Accepted : goal.returns-in-Accepted
+returns-in-Accepted c =
+    rw c.in-Accepted.is c.new.ensures
+
+pub returns-in-Refused : goal.returns-in-Refused
+returns-in-Refused c =
+    rw c.in-Refused.is c.new-in-Refused.ensures
