@@ -15,69 +15,55 @@ use Rattle.worked.proofs.example.Goals as goal
 at : (n : ℕ) → get_or defined n Nothing ≡ get_or answers n Nothing
 at n = ap (λ (l : List Told). get_or l n Nothing) worked
 
--- a number that is none of four is past them
-past : (k n : ℕ) → k ≤ n → (n ≡ k → ⊥) → (n ≡ k + 1 → ⊥) → (n ≡ k + 2 → ⊥) → (n ≡ k + 3 → ⊥) → k + 4 ≤ n
-past k n h a b c d = omega arith
-
 pub returns-in-0 : goal.returns-in-0
-returns-in-0 c = rw c.in_default.keys1 (ap Operator c.floor_divide.ensures ∙ at 0)
+returns-in-0 c = rw c.in-0.is (ap Operator c.floor_divide.ensures ∙ at 0)
 
 pub returns-in-1 : goal.returns-in-1
-returns-in-1 c = rw c.in_default.keys2 (ap Operator c.modulo.ensures ∙ at 1)
+returns-in-1 c = rw c.in-1.is (ap Operator c.modulo.ensures ∙ at 1)
 
 pub returns-in-2 : goal.returns-in-2
-returns-in-2 c = rw c.in_default.keys3 (ap Operator c.floor_divide-in-2.ensures ∙ at 2)
+returns-in-2 c = rw c.in-2.is (ap Operator c.floor_divide-in-2.ensures ∙ at 2)
 
 pub returns-in-3 : goal.returns-in-3
-returns-in-3 c = rw c.in_default.keys4 (ap Operator c.modulo-in-3.ensures ∙ at 3)
+returns-in-3 c = rw c.in-3.is (ap Operator c.modulo-in-3.ensures ∙ at 3)
 
 pub returns-in-4 : goal.returns-in-4
-returns-in-4 c = rw c.in_default.keys5 (ap Operator c.modulo-in-4.ensures ∙ at 4)
+returns-in-4 c = rw c.in-4.is (ap Operator c.modulo-in-4.ensures ∙ at 4)
 
 pub returns-in-5 : goal.returns-in-5
-returns-in-5 c = rw c.in_default.keys6 (ap Operator c.add.ensures ∙ at 5)
+returns-in-5 c = rw c.in-5.is (ap Operator c.add.ensures ∙ at 5)
 
 pub returns-in-6 : goal.returns-in-6
-returns-in-6 c = rw c.in_default.keys7 (ap Number c.from_integer.ensures ∙ at 6)
+returns-in-6 c = rw c.in-6.is (ap Number c.from_integer.ensures ∙ at 6)
 
 pub returns-in-7 : goal.returns-in-7
 unfolding of_bits
-returns-in-7 c = rw c.in_default.keys8 (ap Equal c.is_equal.ensures ∙ at 7)
+returns-in-7 c = rw c.in-7.is (ap Equal c.is_equal.ensures ∙ at 7)
 
 pub returns-in-8 : goal.returns-in-8
 unfolding of_bits
-returns-in-8 c = rw c.in_default.keys9 (ap Integer c.to_integer.ensures ∙ at 8)
+returns-in-8 c = rw c.in-8.is (ap Integer c.to_integer.ensures ∙ at 8)
 
 pub returns-in-9 : goal.returns-in-9
-returns-in-9 c = rw c.in_default.keys10 (ap Operator c.shift_left.ensures ∙ at 9)
+returns-in-9 c = rw c.in-9.is (ap Operator c.shift_left.ensures ∙ at 9)
 
 pub returns-in-10 : goal.returns-in-10
-returns-in-10 c = rw c.in_default.keys11 (ap Operator c.shift_right.ensures ∙ at 10)
+returns-in-10 c = rw c.in-10.is (ap Operator c.shift_right.ensures ∙ at 10)
 
 pub returns-in-11 : goal.returns-in-11
-returns-in-11 c = rw c.in_default.keys12 (ap Operator c.shift_left-in-11.ensures ∙ at 11)
+returns-in-11 c = rw c.in-11.is (ap Operator c.shift_left-in-11.ensures ∙ at 11)
 
 pub returns-in-12 : goal.returns-in-12
-returns-in-12 c = rw c.in_default.keys13 (ap (λ (r : Ran). Run r.answer) c.run_thirteen-r.ensures ∙ at 12)
+returns-in-12 c = rw c.in-12.is (ap (λ (r : Ran). Run r.answer) c.run_thirteen-r.ensures ∙ at 12)
 
 pub returns-in-13 : goal.returns-in-13
-returns-in-13 c = rw c.in_default.keys14 (ap (λ (r : Ran). Run r.answer) c.run_thirteen-r-in-13.ensures ∙ at 13)
+returns-in-13 c = rw c.in-13.is (ap (λ (r : Ran). Run r.answer) c.run_thirteen-r-in-13.ensures ∙ at 13)
 
 pub returns-in-14 : goal.returns-in-14
-returns-in-14 c = rw c.in_default.keys15 (ap (λ (r : Ran). Register r.first) c.run_thirteen-r-in-14.ensures ∙ at 14)
+returns-in-14 c = rw c.in-14.is (ap (λ (r : Ran). Register r.first) c.run_thirteen-r-in-14.ensures ∙ at 14)
 
 pub returns-in-15 : goal.returns-in-15
-returns-in-15 c = rw c.in_default.keys16 (ap (λ (r : Ran). Register r.fourth) c.run_thirteen-r-in-15.ensures ∙ at 15)
+returns-in-15 c = rw c.in-15.is (ap (λ (r : Ran). Register r.fourth) c.run_thirteen-r-in-15.ensures ∙ at 15)
 
 pub returns-in_default : goal.returns-in_default
-returns-in_default c =
-    let n = c.args.n in
-    let r = c.in_default.rest in
-    let s = r.0.0.0.0 in
-    let t = s.0.0.0.0 in
-    let u = t.0.0.0.0 in
-    let four = past 0 n (omega arith) u.0.0.0.1 u.0.0.1 u.0.1 u.1 in
-    let eight = past 4 n four t.0.0.0.1 t.0.0.1 t.0.1 t.1 in
-    let twelve = past 8 n eight s.0.0.0.1 s.0.0.1 s.0.1 s.1 in
-    let all = past 12 n twelve r.0.0.0.1 r.0.0.1 r.0.1 r.1 in
-    sym (get_or-eq_default answers Nothing all)
+returns-in_default c = let all : 16 ≤ c.args.n = omega arith in sym (get_or-eq_default answers Nothing all)

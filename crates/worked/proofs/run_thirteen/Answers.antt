@@ -45,4 +45,4 @@ unfolding thirteen.thirteen_frames thirteen_text frames.payload write.hex_digit 
 returns c =
     let image = stored-as c.read.ensures in
     let begun = begins_as image c.start.ensures in
-    ran-as _ (ends_as _ image begun c.run-answer.ensures) c.value_of_lem.ensures c.value_of-2.ensures
+    ran-as _ (ends_as _ image begun c.run-answer.ensures) c.value_of.ensures c.value_of-2.ensures
