@@ -1,6 +1,6 @@
 -- What a storage that an image reads to has in it: registers and parameters within their limits, starts that only grow, constants that are values.
 -- Assumes nothing.
-use Prim.Native.Nat.{ℕ, zero, suc, ◌+◌, ◌*◌, ◌≤◌, ◌<◌}
+use Prim.Native.Nat.{ℕ, zero, suc, ◌+◌, ◌≤◌, ◌<◌}
 use native.Mathlib.Omega.{arith}
 use native.Mathlib.Nat.{add-zero}
 use mathlib.Core.Path.{◌≡◌, refl, sym, ap, ◌∙◌}
@@ -9,7 +9,7 @@ use mathlib.Core.List.{List, [], ◌∷◌}
 use lib.ListN.{length, get_or}
 use lib.Dec.{eqb}
 use borrow.Author.Tests.{eq-eqb, eqb-true, eqb-false, lt-ltb}
-use Rattle.image.specs.Frames.{F, opens, const, str, code, desc, shape, most_of}
+use Rattle.image.specs.Frames.{F, const, str, code, desc, shape, most_of}
 use Rattle.image.specs.declared.Counts.{Counts}
 use Rattle.image.specs.declared.Step.TheVariants.{On, Done}
 use Rattle.choices.proofs.Choices.{cond_cases, by_order}

@@ -1,6 +1,6 @@
 -- The count of a run is the number of steps that the definition takes, and 70 is answered only where that is the whole budget. Assumes nothing.
-use mathlib.Core.Path.{◌≡◌, refl, sym, ap, ◌∙◌}
-use Prim.Native.Nat.{ℕ, zero, suc, ◌+◌, ◌<◌}
+use mathlib.Core.Path.{◌≡◌, refl, sym, ◌∙◌}
+use Prim.Native.Nat.{ℕ, zero, suc, ◌+◌}
 use native.Mathlib.Omega.{arith}
 use borrow.Author.Tests.{eqb-false}
 use lib.Dec.{eqb}
@@ -10,7 +10,7 @@ use Rattle.state.specs.States.{State}
 use Rattle.step.specs.Step.{Turn, on, stop, fault, step_of}
 use Rattle.step.specs.Run.{Ended, ended, answer_of, standing_of, after, run_from, run_of}
 use Rattle.laws.specs.Statements.{Steps, none, more, Counted, stood, spent, stopped, faulted, CountsSteps, WholeBudget}
-use Rattle.laws.proofs.Marks.{halts-apart, Marks, marks}
+use Rattle.laws.proofs.Marks.{halts-apart, marks}
 
 module _ (S : Storage) where
   module _ (s : State) (budget : ℕ) where
