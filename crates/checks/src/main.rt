@@ -9,32 +9,33 @@
 //   .01211                      the storage is checked; each slice is one cell short (0), as published (1) or one longer (2)
 #![tactic(auto)]
 
-ghost use Rattle.std.specs.Prelude.{◌+◌, ◌≤◌, length};
+ghost use Rattle.std.specs.Prelude.{◌+◌, ◌≤◌, length, IfOk};
 
 use checker::Checked;
 use image::Judged;
+use std::io;
+use std::io::Read;
 
 // ---- what is written
 
-fn print(x: u64) {
-    io::print_decimal(1, x);
-    io::write_all(1, b" ");
+fn print(rt: &impl Print, x: u64) -> io::Result<()> {
+    print!(rt; "{x} ")
 }
 
-fn print_answer(r: Checked) {
+fn print_answer(rt: &impl Print, r: Checked) -> io::Result<()> {
     match r {
         Checked::Accepted => {
-            print(0);
-            print(0);
-            print(0);
+            print(rt, 0)?;
+            print(rt, 0)?;
+            print(rt, 0)?;
         }
         Checked::Refused(n, q, i) => {
-            print(n as u64);
-            print(q as u64);
-            print(i as u64);
+            print(rt, n as u64)?;
+            print(rt, q as u64)?;
+            print(rt, i as u64)?;
         }
     }
-    io::write_all(1, b"\n");
+    rt.println("")
 }
 
 // ---- a case
@@ -79,13 +80,14 @@ fn change_all(
 
 // Checks as much of the storage as a line says.
 fn check(
+    rt: &impl Print,
     line: &[u8],
     table: &[u64],
     code: &[u64],
     const_kinds: &[u8],
     const_words: &[u64],
     texts: &[u8],
-) {
+) -> io::Result<()> {
     let a = lists::lent(line, 1, table.len());
     let b = lists::lent(line, 2, code.len());
     let c = lists::lent(line, 3, const_kinds.len());
@@ -98,11 +100,11 @@ fn check(
         &const_words[..d],
         &texts[..e],
     );
-    print_answer(r);
+    print_answer(rt, r)
 }
 
 // A case: the lines of its image and of its changes, read into slices that are one cell longer than published.
-fn run(s: &[u8], line: &[u8]) {
+fn run(rt: &impl Print, s: &[u8], line: &[u8]) -> io::Result<()> {
     let mut table = [0u64; storage::TABLE + 1];
     let mut code = [0u64; storage::CODE + 1];
     let mut const_kinds = [0u8; storage::CONSTANTS + 1];
@@ -118,8 +120,7 @@ fn run(s: &[u8], line: &[u8]) {
         &mut texts,
     );
     if let Judged::Refused(_, _) = r {
-        io::write_all(1, b"not read\n");
-        return;
+        return rt.println("not read");
     }
     change_all(
         &s[n..],
@@ -129,45 +130,57 @@ fn run(s: &[u8], line: &[u8]) {
         &mut const_words,
         &mut texts,
     );
-    check(line, &table, &code, &const_kinds, &const_words, &texts);
+    check(rt, line, &table, &code, &const_kinds, &const_words, &texts)
 }
 
 // ---- the list
 
-fn echo(line: &[u8]) {
-    io::write_all(1, line);
-    io::write_all(1, b"\n");
+fn echo(rt: &impl Print, line: &[u8]) -> io::Result<()> {
+    rt.write_all(line)?;
+    rt.println("")
 }
 
 // The line from `at` to e of a case that begins at `start`; where the case begins that the next line belongs to.
-fn play_line(s: &[u8], start: usize, at: usize, e: usize) -> usize
+fn play_line(rt: &impl Print, s: &[u8], start: usize, at: usize, e: usize) -> io::Result<usize>
     requires { (start ≤ at) × (at ≤ e) × (e ≤ length s.now) }
-    ensures { result ≤ e + 1 }
+    ensures { IfOk result (λ next. next ≤ e + 1) }
 {
     let kind = slices::byte_at(s, at, 0);
     if kind == b'#' {
-        echo(&s[at..e]);
-        return e + 1;
+        echo(rt, &s[at..e])?;
+        return Ok(e + 1);
     }
     if kind == b'.' {
-        run(&s[start..at], &s[at..e]);
-        return e + 1;
+        run(rt, &s[start..at], &s[at..e])?;
+        return Ok(e + 1);
     }
-    start
+    Ok(start)
 }
 
-fn play(s: &[u8]) {
+fn play(rt: &impl Print, s: &[u8]) -> io::Result<()> {
     let mut at = 0;
     let mut start = 0;
     while at < s.len() {
         let e = lists::find(s, at, b'\n');
-        start = play_line(s, start, at, e);
+        start = play_line(rt, s, start, at, e)?;
         at = e + 1;
     }
+    Ok(())
 }
 
-fn main() {
+// Fills a buffer from the input, or as much of it as the input has. Answers how many bytes that is.
+fn read_full(rt: &impl Input, buffer: &mut [u8]) -> io::Result<usize>
+    ensures { IfOk result (λ n. n ≤ length buffer.new) }
+{
+    let room = buffer.len();
+    let mut rest = &mut buffer[..];
+    io::copy(&mut rt.reader().take(room as u64), &mut rest)?;
+    let left = rest.len();
+    Ok(room.saturating_sub(left))
+}
+
+fn main(rt: HostRuntime) -> io::Result<()> {
     let mut list = [0u8; 393216];
-    let n = io::read_full(0, &mut list);
-    play(&list[..n]);
+    let n = read_full(&rt, &mut list)?;
+    play(&rt, &list[..n])
 }

@@ -10,9 +10,11 @@
 //   .01211               the image is read; each slice is one cell short (0), as published (1) or one cell longer (2)
 #![tactic(auto)]
 
-ghost use Rattle.std.specs.Prelude.{◌<◌};
+ghost use Rattle.std.specs.Prelude.{◌<◌, ◌≤◌, length, IfOk};
 
 use image::Judged;
+use std::io;
+use std::io::Read;
 use writer::Wrote;
 
 // The room for an image: a byte more than may be read, and some.
@@ -53,33 +55,32 @@ fn digest_bytes(s: &[u8]) -> u64 {
 
 // ---- what is written
 
-fn print(x: u64) {
-    io::print_decimal(1, x);
-    io::write_all(1, b" ");
+fn print(rt: &impl Print, x: u64) -> io::Result<()> {
+    print!(rt; "{x} ")
 }
 
-fn print_answer(r: Judged) {
+fn print_answer(rt: &impl Print, r: Judged) -> io::Result<()> {
     match r {
         Judged::Accepted(n) => {
-            print(0);
-            print(n as u64);
+            print(rt, 0)?;
+            print(rt, n as u64)
         }
         Judged::Refused(k, n) => {
-            print(k as u64);
-            print(n as u64);
+            print(rt, k as u64)?;
+            print(rt, n as u64)
         }
     }
 }
 
-fn print_wrote(r: Wrote) {
+fn print_wrote(rt: &impl Print, r: Wrote) -> io::Result<()> {
     match r {
         Wrote::Bytes(n) => {
-            print(0);
-            print(n as u64);
+            print(rt, 0)?;
+            print(rt, n as u64)
         }
         Wrote::Refused(k) => {
-            print(k as u64);
-            print(0);
+            print(rt, k as u64)?;
+            print(rt, 0)
         }
     }
 }
@@ -131,6 +132,7 @@ fn append(line: &[u8], image: &mut [u8], top: usize) -> usize {
 
 // Reads an image into as much of the storage as a line says.
 fn read(
+    rt: &impl Print,
     image: &[u8],
     line: &[u8],
     table: &mut [u64],
@@ -138,7 +140,7 @@ fn read(
     const_kinds: &mut [u8],
     const_words: &mut [u64],
     texts: &mut [u8],
-) {
+) -> io::Result<()> {
     let a = lists::lent(line, 1, table.len());
     let b = lists::lent(line, 2, code.len());
     let c = lists::lent(line, 3, const_kinds.len());
@@ -152,16 +154,17 @@ fn read(
         &mut const_words[..d],
         &mut texts[..e],
     );
-    print_answer(r);
-    print(digest_words(table));
-    print(digest_words(code));
-    print(digest_bytes(const_kinds));
-    print(digest_words(const_words));
-    print(digest_bytes(texts));
+    print_answer(rt, r)?;
+    print(rt, digest_words(table))?;
+    print(rt, digest_words(code))?;
+    print(rt, digest_bytes(const_kinds))?;
+    print(rt, digest_words(const_words))?;
+    print(rt, digest_bytes(texts))
 }
 
 // Writes as much of the storage as a line says back into the first n bytes of an output.
 fn write(
+    rt: &impl Print,
     n: usize,
     line: &[u8],
     table: &[u64],
@@ -170,14 +173,14 @@ fn write(
     const_words: &[u64],
     texts: &[u8],
     out: &mut [u8],
-) {
+) -> io::Result<()> {
     let a = lists::lent(line, 1, table.len());
     let b = lists::lent(line, 2, code.len());
     let c = lists::lent(line, 3, const_kinds.len());
     let d = lists::lent(line, 4, const_words.len());
     let e = lists::lent(line, 5, texts.len());
     if out.len() < n {
-        return;
+        return Ok(());
     }
     let r = writer::write(
         &table[..a],
@@ -187,8 +190,8 @@ fn write(
         &texts[..e],
         &mut out[..n],
     );
-    print_wrote(r);
-    print(digest_bytes(out));
+    print_wrote(rt, r)?;
+    print(rt, digest_bytes(out))
 }
 
 fn one_less(n: usize) -> usize {
@@ -199,16 +202,17 @@ fn one_less(n: usize) -> usize {
 }
 
 // Reads the first n bytes, into slices that are one cell longer than published, and writes them back.
-fn run(image: &[u8], n: usize, line: &[u8]) {
+fn run(rt: &impl Print, image: &[u8], n: usize, line: &[u8]) -> io::Result<()> {
     let mut table = [0x5a5a_5a5a_5a5a_5a5au64; 422];
     let mut code = [0x5a5a_5a5a_5a5a_5a5au64; 5042];
     let mut const_kinds = [0x5au8; 8449];
     let mut const_words = [0x5a5a_5a5a_5a5a_5a5au64; 8449];
     let mut texts = [0x5au8; 32769];
     if image.len() < n {
-        return;
+        return Ok(());
     }
     read(
+        rt,
         &image[..n],
         line,
         &mut table,
@@ -216,10 +220,11 @@ fn run(image: &[u8], n: usize, line: &[u8]) {
         &mut const_kinds,
         &mut const_words,
         &mut texts,
-    );
+    )?;
     let mut out = [0x5au8; 65600];
     let short = one_less(n);
     write(
+        rt,
         short,
         line,
         &table,
@@ -228,8 +233,9 @@ fn run(image: &[u8], n: usize, line: &[u8]) {
         &const_words,
         &texts,
         &mut out,
-    );
+    )?;
     write(
+        rt,
         n,
         line,
         &table,
@@ -238,40 +244,52 @@ fn run(image: &[u8], n: usize, line: &[u8]) {
         &const_words,
         &texts,
         &mut out,
-    );
-    io::write_all(1, b"\n");
+    )?;
+    rt.println("")
 }
 
 // ---- the list
 
 // One line; how long the image is then.
-fn play_line(line: &[u8], image: &mut [u8], top: usize) -> usize {
+fn play_line(rt: &impl Print, line: &[u8], image: &mut [u8], top: usize) -> io::Result<usize> {
     let kind = slices::byte_at(line, 0, 0);
     if kind == b'#' {
-        io::write_all(1, line);
-        io::write_all(1, b"\n");
-        return top;
+        rt.write_all(line)?;
+        rt.println("")?;
+        return Ok(top);
     }
     if kind == b'.' {
-        run(image, top, line);
-        return 0;
+        run(rt, image, top, line)?;
+        return Ok(0);
     }
-    append(line, image, top)
+    Ok(append(line, image, top))
 }
 
-fn play(s: &[u8], image: &mut [u8]) {
+fn play(rt: &impl Print, s: &[u8], image: &mut [u8]) -> io::Result<()> {
     let mut at = 0;
     let mut top = 0;
     while at < s.len() {
         let e = lists::find(s, at, b'\n');
-        top = play_line(&s[at..e], image, top);
+        top = play_line(rt, &s[at..e], image, top)?;
         at = e + 1;
     }
+    Ok(())
 }
 
-fn main() {
+// Fills a buffer from the input, or as much of it as the input has. Answers how many bytes that is.
+fn read_full(rt: &impl Input, buffer: &mut [u8]) -> io::Result<usize>
+    ensures { IfOk result (λ n. n ≤ length buffer.new) }
+{
+    let room = buffer.len();
+    let mut rest = &mut buffer[..];
+    io::copy(&mut rt.reader().take(room as u64), &mut rest)?;
+    let left = rest.len();
+    Ok(room.saturating_sub(left))
+}
+
+fn main(rt: HostRuntime) -> io::Result<()> {
     let mut list = [0u8; 393216];
     let mut image = [0u8; 65600];
-    let n = io::read_full(0, &mut list);
-    play(&list[..n], &mut image);
+    let n = read_full(&rt, &mut list)?;
+    play(&rt, &list[..n], &mut image)
 }

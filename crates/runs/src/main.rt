@@ -9,10 +9,12 @@
 //   a0.. d1.. b0.. c0.. e0..    a line of its image, e0 the last
 #![tactic(auto)]
 
-ghost use Rattle.std.specs.Prelude.{◌+◌, ◌≤◌, length};
+ghost use Rattle.std.specs.Prelude.{◌+◌, ◌≤◌, length, IfOk};
 
 use checker::Checked;
 use image::Judged;
+use std::io;
+use std::io::Read;
 use step::Outcome;
 
 const BUDGET: u32 = 1000000;
@@ -122,41 +124,47 @@ fn put_value(
     1
 }
 
-fn print_value(kind: u8, word: u64, const_words: &[u64], texts: &[u8], frames: &[u64]) {
+fn print_value(
+    rt: &impl Print,
+    kind: u8,
+    word: u64,
+    const_words: &[u64],
+    texts: &[u8],
+    frames: &[u64],
+) -> io::Result<()> {
     let mut out = [b' '; 133];
     put_hex(&mut out, 0, 0xb0);
     put_hex(&mut out, 1, kind);
     let n = put_value(&mut out, kind, word, const_words, texts, frames);
-    io::write_all(1, &out[..5 + 2 * n]);
+    rt.write_all(&out[..5 + 2 * n])
 }
 
 // ---- what a run answers
 
 // The values that a Return names in the window of the only activation.
 fn print_returned(
+    rt: &impl Print,
     w: u64,
     kinds: &[u8],
     words: &[u64],
     const_words: &[u64],
     texts: &[u8],
     frames: &[u64],
-) {
+) -> io::Result<()> {
     let start = image::a_of(w) as usize;
     let n = image::b_of(w) as usize;
     let mut i: usize = 0;
     while i < n {
         let kind = slices::byte_at(kinds, start, i);
         let word = slices::word_at(words, start, i);
-        print_value(kind, word, const_words, texts, frames);
+        print_value(rt, kind, word, const_words, texts, frames)?;
         i += 1;
     }
+    Ok(())
 }
 
-fn print_place(o: Outcome) {
-    io::write_all(1, b" ");
-    io::print_decimal(1, o.prototype as u64);
-    io::write_all(1, b" ");
-    io::print_decimal(1, o.instruction as u64);
+fn print_place(rt: &impl Print, o: Outcome) -> io::Result<()> {
+    print!(rt; " {} {}", o.prototype, o.instruction)
 }
 
 // ---- a program
@@ -183,6 +191,7 @@ fn counted(t: Tally, number: u8) -> Tally {
 
 // Runs what is started, and writes the answer; its number.
 fn answer(
+    rt: &impl Print,
     table: &[u64],
     code: &[u64],
     const_kinds: &[u8],
@@ -191,7 +200,7 @@ fn answer(
     frames: &mut [u64],
     kinds: &mut [u8],
     words: &mut [u64],
-) -> u8 {
+) -> io::Result<u8> {
     let o = vm::run(
         table,
         code,
@@ -203,19 +212,19 @@ fn answer(
         words,
         BUDGET,
     );
-    io::print_decimal(1, o.number as u64);
+    rt.print(o.number)?;
     if o.number == 0 {
         let w = storage::instruction(table, code, o.prototype, o.instruction);
-        print_returned(w, kinds, words, const_words, texts, frames);
+        print_returned(rt, w, kinds, words, const_words, texts, frames)?;
     } else {
-        print_place(o);
+        print_place(rt, o)?;
     }
-    io::write_all(1, b"\n");
-    o.number
+    rt.println("")?;
+    Ok(o.number)
 }
 
 // One image; the number of its answer.
-fn run(s: &[u8]) -> u8 {
+fn run(rt: &impl Print, s: &[u8]) -> io::Result<u8> {
     let mut table = [0u64; storage::TABLE];
     let mut code = [0u64; storage::CODE];
     let mut const_kinds = [0u8; storage::CONSTANTS];
@@ -230,8 +239,8 @@ fn run(s: &[u8]) -> u8 {
         &mut texts,
     );
     if let Judged::Refused(n, _) = r {
-        io::write_all(1, b"not read\n");
-        return n;
+        rt.println("not read")?;
+        return Ok(n);
     }
     let mut frames = [0u64; state::FRAMES];
     let mut kinds = [0u8; state::REGISTERS];
@@ -251,10 +260,11 @@ fn run(s: &[u8]) -> u8 {
         &no_words,
     );
     if let Checked::Refused(n, _, _) = c {
-        io::write_all(1, b"not started\n");
-        return n;
+        rt.println("not started")?;
+        return Ok(n);
     }
     answer(
+        rt,
         &table,
         &code,
         &const_kinds,
@@ -279,9 +289,9 @@ fn behind(s: &[u8], e: usize) -> usize
     e
 }
 
-fn echo(line: &[u8]) {
-    io::write_all(1, line);
-    io::write_all(1, b"\n");
+fn echo(rt: &impl Print, line: &[u8]) -> io::Result<()> {
+    rt.write_all(line)?;
+    rt.println("")
 }
 
 // Where the image begins that the next line belongs to, and the tally so far.
@@ -292,41 +302,40 @@ struct Played {
 }
 
 // The line from `at` to e.
-fn play_line(s: &[u8], p: Played, at: usize, e: usize) -> Played
+fn play_line(rt: &impl Print, s: &[u8], p: Played, at: usize, e: usize) -> io::Result<Played>
     requires { (p.start ≤ at) × (at ≤ e) × (e ≤ length s.now) }
-    ensures { result.start ≤ e + 1 }
+    ensures { IfOk result (λ next. next.start ≤ e + 1) }
 {
     let kind = slices::byte_at(s, at, 0);
     let start = p.start;
     let tally = p.tally;
     if kind == b'#' {
-        echo(&s[at..e]);
-        return Played {
+        echo(rt, &s[at..e])?;
+        return Ok(Played {
             start: e + 1,
             tally,
-        };
+        });
     }
     if kind == b'e' {
         let end = behind(s, e);
-        let n = run(&s[start..end]);
-        return Played {
+        let n = run(rt, &s[start..end])?;
+        return Ok(Played {
             start: e + 1,
             tally: counted(tally, n),
-        };
+        });
     }
-    p
+    Ok(p)
 }
 
-fn print_totals(t: Tally) {
-    io::print_decimal(1, std::num::wrapping_add_u64(t.returned, t.raised));
-    io::write_all(1, b" programs: ");
-    io::print_decimal(1, t.returned);
-    io::write_all(1, b" returned, ");
-    io::print_decimal(1, t.raised);
-    io::write_all(1, b" raised an error\n");
+fn print_totals(rt: &impl Print, t: Tally) -> io::Result<()> {
+    let all = std::num::wrapping_add_u64(t.returned, t.raised);
+    println!(rt;
+        "{all} programs: {} returned, {} raised an error",
+        t.returned, t.raised
+    )
 }
 
-fn play(s: &[u8]) {
+fn play(rt: &impl Print, s: &[u8]) -> io::Result<()> {
     let mut at = 0;
     let mut p = Played {
         start: 0,
@@ -337,14 +346,25 @@ fn play(s: &[u8]) {
     };
     while at < s.len() {
         let e = lists::find(s, at, b'\n');
-        p = play_line(s, p, at, e);
+        p = play_line(rt, s, p, at, e)?;
         at = e + 1;
     }
-    print_totals(p.tally);
+    print_totals(rt, p.tally)
 }
 
-fn main() {
+// Fills a buffer from the input, or as much of it as the input has. Answers how many bytes that is.
+fn read_full(rt: &impl Input, buffer: &mut [u8]) -> io::Result<usize>
+    ensures { IfOk result (λ n. n ≤ length buffer.new) }
+{
+    let room = buffer.len();
+    let mut rest = &mut buffer[..];
+    io::copy(&mut rt.reader().take(room as u64), &mut rest)?;
+    let left = rest.len();
+    Ok(room.saturating_sub(left))
+}
+
+fn main(rt: HostRuntime) -> io::Result<()> {
     let mut list = [0u8; 1048576];
-    let n = io::read_full(0, &mut list);
-    play(&list[..n]);
+    let n = read_full(&rt, &mut list)?;
+    play(&rt, &list[..n])
 }

@@ -3,63 +3,52 @@
 #![tactic(auto)]
 
 use constant::{Answer, Value};
-use libc::STDOUT_FILENO;
 use number::Whole;
+use std::io;
 use step::Outcome;
 use worked::Told;
 
-fn write_value(v: Value) {
-    io::print_decimal(STDOUT_FILENO, constant::kind_of(v) as u64);
-    io::write_all(STDOUT_FILENO, b" ");
-    io::print_hex(STDOUT_FILENO, constant::word_of(v), 16);
+fn write_value(rt: &impl Print, v: Value) -> io::Result<()> {
+    print!(rt; "{} {:016x}", constant::kind_of(v), constant::word_of(v))
 }
 
-fn write_answer(a: Answer) {
+fn write_answer(rt: &impl Print, a: Answer) -> io::Result<()> {
     match a {
-        Answer::Is(v) => write_value(v),
-        Answer::Raises(e, _) => {
-            io::print_decimal(STDOUT_FILENO, constant::error_number(e) as u64);
-        }
+        Answer::Is(v) => write_value(rt, v),
+        Answer::Raises(e, _) => rt.print(constant::error_number(e)),
     }
 }
 
-fn write_whole(w: Whole) {
+fn write_whole(rt: &impl Print, w: Whole) -> io::Result<()> {
     match w {
-        Whole::Exact(x) => write_value(Value::Integer(x)),
-        Whole::NotWhole => {
-            io::write_all(STDOUT_FILENO, b"none");
-        }
+        Whole::Exact(x) => write_value(rt, Value::Integer(x)),
+        Whole::NotWhole => rt.print("none"),
     }
 }
 
-fn write_outcome(o: Outcome) {
-    io::print_decimal(STDOUT_FILENO, o.number as u64);
-    io::write_all(STDOUT_FILENO, b" ");
-    io::print_decimal(STDOUT_FILENO, o.count as u64);
-    io::write_all(STDOUT_FILENO, b" ");
-    io::print_decimal(STDOUT_FILENO, o.prototype as u64);
-    io::write_all(STDOUT_FILENO, b" ");
-    io::print_decimal(STDOUT_FILENO, o.instruction as u64);
+fn write_outcome(rt: &impl Print, o: Outcome) -> io::Result<()> {
+    print!(rt;
+        "{} {} {} {}",
+        o.number, o.count, o.prototype, o.instruction
+    )
 }
 
-fn write_told(t: Told) {
+fn write_told(rt: &impl Print, t: Told) -> io::Result<()> {
     match t {
-        Told::Operator(a) => write_answer(a),
-        Told::Number(x) => write_value(Value::Number(x)),
-        Told::Equal(b) => write_value(Value::Boolean(b)),
-        Told::Integer(w) => write_whole(w),
-        Told::Run(o) => write_outcome(o),
-        Told::Register(v) => write_value(v),
-        Told::Nothing => {}
+        Told::Operator(a) => write_answer(rt, a),
+        Told::Number(x) => write_value(rt, Value::Number(x)),
+        Told::Equal(b) => write_value(rt, Value::Boolean(b)),
+        Told::Integer(w) => write_whole(rt, w),
+        Told::Run(o) => write_outcome(rt, o),
+        Told::Register(v) => write_value(rt, v),
+        Told::Nothing => Ok(()),
     }
 }
 
-fn write_line(number: u64, t: Told) {
-    io::write_all(STDOUT_FILENO, b"W");
-    io::print_decimal(STDOUT_FILENO, number);
-    io::write_all(STDOUT_FILENO, b" ");
-    write_told(t);
-    io::write_all(STDOUT_FILENO, b"\n");
+fn write_line(rt: &impl Print, number: u64, t: Told) -> io::Result<()> {
+    print!(rt; "W{number} ")?;
+    write_told(rt, t)?;
+    rt.println("")
 }
 
 // The example's number of the place in the list.
@@ -70,8 +59,9 @@ fn number_of(n: u64) -> u64 {
     13
 }
 
-fn main() {
+fn main(rt: HostRuntime) -> io::Result<()> {
     for n in 0..16 {
-        write_line(number_of(n), worked::example(n));
+        write_line(&rt, number_of(n), worked::example(n))?;
     }
+    Ok(())
 }

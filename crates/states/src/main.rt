@@ -22,68 +22,69 @@
 //   ?11111111              how the machine stands
 #![tactic(auto)]
 
-ghost use Rattle.std.specs.Prelude.{◌≤◌};
+ghost use Rattle.std.specs.Prelude.{◌≤◌, length, IfOk};
 
 use checker::Checked;
 use image::Judged;
+use std::io;
+use std::io::Read;
 use step::Outcome;
 
 // ---- what is written
 
-fn print(x: u64) {
-    io::write_all(1, b" ");
-    io::print_decimal(1, x);
+fn print(rt: &impl Print, x: u64) -> io::Result<()> {
+    print!(rt; " {x}")
 }
 
-fn print_started(r: Checked) {
-    io::write_all(1, b">");
+fn print_started(rt: &impl Print, r: Checked) -> io::Result<()> {
+    rt.print(">")?;
     match r {
-        Checked::Accepted => print(0),
+        Checked::Accepted => print(rt, 0),
         Checked::Refused(n, q, i) => {
-            print(n as u64);
-            print(q as u64);
-            print(i as u64);
+            print(rt, n as u64)?;
+            print(rt, q as u64)?;
+            print(rt, i as u64)
         }
     }
 }
 
-fn print_outcome(o: Outcome) {
-    print(o.number as u64);
-    print(o.count as u64);
-    print(o.prototype as u64);
-    print(o.instruction as u64);
-    print(o.operand as u64);
+fn print_outcome(rt: &impl Print, o: Outcome) -> io::Result<()> {
+    print(rt, o.number as u64)?;
+    print(rt, o.count as u64)?;
+    print(rt, o.prototype as u64)?;
+    print(rt, o.instruction as u64)?;
+    print(rt, o.operand as u64)
 }
 
 // A cell that is another than before: its slice, place and content.
-fn print_cell(slice: &[u8], i: usize, was: u64, is: u64) {
+fn print_cell(rt: &impl Print, slice: &[u8], i: usize, was: u64, is: u64) -> io::Result<()> {
     if was == is {
-        return;
+        return Ok(());
     }
-    io::write_all(1, slice);
-    io::print_hex(1, i as u64, 1);
-    io::write_all(1, b":");
-    io::print_hex(1, is, 1);
+    rt.write_all(slice)?;
+    print!(rt; "{i:x}:{is:x}")
 }
 
-fn print_words(slice: &[u8], was: &[u64], is: &[u64]) {
+fn print_words(rt: &impl Print, slice: &[u8], was: &[u64], is: &[u64]) -> io::Result<()> {
     let mut i = 0;
     while i < is.len() {
-        print_cell(slice, i, slices::word_at(was, 0, i), is[i]);
+        print_cell(rt, slice, i, slices::word_at(was, 0, i), is[i])?;
         i += 1;
     }
+    Ok(())
 }
 
 fn wide(b: u8) -> u64 {
     b as u64
 }
 
-fn print_bytes(slice: &[u8], was: &[u8], is: &[u8]) {
+fn print_bytes(rt: &impl Print, slice: &[u8], was: &[u8], is: &[u8]) -> io::Result<()> {
     let mut i = 0;
     while i < is.len() {
-        print_cell(slice, i, wide(slices::byte_at(was, 0, i)), wide(is[i]));
+        print_cell(rt, slice, i, wide(slices::byte_at(was, 0, i)), wide(is[i]))?;
         i += 1;
     }
+    Ok(())
 }
 
 // ---- a line of the list
@@ -193,6 +194,7 @@ fn take_arguments(line: &[u8], kinds: &mut [u8], words: &mut [u64]) {
 }
 
 fn start_with(
+    rt: &impl Print,
     line: &[u8],
     table: &[u64],
     code: &[u64],
@@ -204,7 +206,7 @@ fn start_with(
     words: &mut [u64],
     arg_kinds: &[u8],
     arg_words: &[u64],
-) {
+) -> io::Result<()> {
     let a = lists::lent(line, 1, table.len());
     let b = lists::lent(line, 2, code.len());
     let c = lists::lent(line, 3, const_kinds.len());
@@ -227,10 +229,11 @@ fn start_with(
         &arg_kinds[..n],
         &arg_words[..m],
     );
-    print_started(r);
+    print_started(rt, r)
 }
 
 fn start(
+    rt: &impl Print,
     line: &[u8],
     table: &[u64],
     code: &[u64],
@@ -240,11 +243,12 @@ fn start(
     frames: &mut [u64],
     kinds: &mut [u8],
     words: &mut [u64],
-) {
+) -> io::Result<()> {
     let mut arg_kinds = [0u8; 15];
     let mut arg_words = [0u64; 15];
     take_arguments(line, &mut arg_kinds, &mut arg_words);
     start_with(
+        rt,
         line,
         table,
         code,
@@ -256,10 +260,11 @@ fn start(
         words,
         &arg_kinds,
         &arg_words,
-    );
+    )
 }
 
 fn run(
+    rt: &impl Print,
     line: &[u8],
     table: &[u64],
     code: &[u64],
@@ -269,7 +274,7 @@ fn run(
     frames: &mut [u64],
     kinds: &mut [u8],
     words: &mut [u64],
-) {
+) -> io::Result<()> {
     let budget = (lists::number_at(line, 10, 8) % 0x1_0000_0000) as u32;
     let a = lists::lent(line, 1, table.len());
     let b = lists::lent(line, 2, code.len());
@@ -290,11 +295,12 @@ fn run(
         &mut words[..h],
         budget,
     );
-    io::write_all(1, b"!");
-    print_outcome(o);
+    rt.print("!")?;
+    print_outcome(rt, o)
 }
 
 fn stand(
+    rt: &impl Print,
     line: &[u8],
     table: &[u64],
     code: &[u64],
@@ -304,7 +310,7 @@ fn stand(
     frames: &[u64],
     kinds: &[u8],
     words: &[u64],
-) {
+) -> io::Result<()> {
     let a = lists::lent(line, 1, table.len());
     let b = lists::lent(line, 2, code.len());
     let c = lists::lent(line, 3, const_kinds.len());
@@ -323,13 +329,14 @@ fn stand(
         &kinds[..g],
         &words[..h],
     );
-    io::write_all(1, b"?");
-    print_outcome(o);
+    rt.print("?")?;
+    print_outcome(rt, o)
 }
 
 // ---- a case
 
 fn act(
+    rt: &impl Print,
     line: &[u8],
     table: &[u64],
     code: &[u64],
@@ -339,9 +346,10 @@ fn act(
     frames: &mut [u64],
     kinds: &mut [u8],
     words: &mut [u64],
-) {
+) -> io::Result<()> {
     match slices::byte_at(line, 0, 0) {
         b'>' => start(
+            rt,
             line,
             table,
             code,
@@ -353,6 +361,7 @@ fn act(
             words,
         ),
         b'!' => run(
+            rt,
             line,
             table,
             code,
@@ -364,6 +373,7 @@ fn act(
             words,
         ),
         _ => stand(
+            rt,
             line,
             table,
             code,
@@ -379,6 +389,7 @@ fn act(
 
 // A start or a run, and what it changes.
 fn answer(
+    rt: &impl Print,
     line: &[u8],
     table: &[u64],
     code: &[u64],
@@ -388,7 +399,7 @@ fn answer(
     frames: &mut [u64],
     kinds: &mut [u8],
     words: &mut [u64],
-) {
+) -> io::Result<()> {
     let mut was_frames = [0u64; state::FRAMES + 1];
     let mut was_kinds = [0u8; state::REGISTERS + 1];
     let mut was_words = [0u64; state::REGISTERS + 1];
@@ -396,6 +407,7 @@ fn answer(
     slices::take_bytes(kinds, 0, &mut was_kinds, 0, state::REGISTERS + 1);
     slices::take_words(words, 0, &mut was_words, 0, state::REGISTERS + 1);
     act(
+        rt,
         line,
         table,
         code,
@@ -405,14 +417,15 @@ fn answer(
         frames,
         kinds,
         words,
-    );
-    print_words(b" f", &was_frames, frames);
-    print_bytes(b" r", &was_kinds, kinds);
-    print_words(b" v", &was_words, words);
-    io::write_all(1, b"\n");
+    )?;
+    print_words(rt, b" f", &was_frames, frames)?;
+    print_bytes(rt, b" r", &was_kinds, kinds)?;
+    print_words(rt, b" v", &was_words, words)?;
+    rt.println("")
 }
 
 fn play_line(
+    rt: &impl Print,
     line: &[u8],
     table: &mut [u64],
     code: &mut [u64],
@@ -422,22 +435,29 @@ fn play_line(
     frames: &mut [u64],
     kinds: &mut [u8],
     words: &mut [u64],
-) {
+) -> io::Result<()> {
     match slices::byte_at(line, 0, 0) {
-        b'<' => {}
-        b'=' => change(
-            line,
-            table,
-            code,
-            const_kinds,
-            const_words,
-            texts,
-            frames,
-            kinds,
-            words,
-        ),
-        b'0' => clear(frames, kinds, words),
+        b'<' => Ok(()),
+        b'=' => {
+            change(
+                line,
+                table,
+                code,
+                const_kinds,
+                const_words,
+                texts,
+                frames,
+                kinds,
+                words,
+            );
+            Ok(())
+        }
+        b'0' => {
+            clear(frames, kinds, words);
+            Ok(())
+        }
         _ => answer(
+            rt,
             line,
             table,
             code,
@@ -452,6 +472,7 @@ fn play_line(
 }
 
 fn play_lines(
+    rt: &impl Print,
     s: &[u8],
     table: &mut [u64],
     code: &mut [u64],
@@ -461,11 +482,12 @@ fn play_lines(
     frames: &mut [u64],
     kinds: &mut [u8],
     words: &mut [u64],
-) {
+) -> io::Result<()> {
     let mut at = 0;
     while at < s.len() {
         let e = lists::find(s, at, b'\n');
         play_line(
+            rt,
             &s[at..e],
             table,
             code,
@@ -475,13 +497,14 @@ fn play_lines(
             frames,
             kinds,
             words,
-        );
+        )?;
         at = e + 1;
     }
+    Ok(())
 }
 
 // A case: its name, its image, and the lines after it. Every slice is one cell longer than published.
-fn play_case(s: &[u8]) {
+fn play_case(rt: &impl Print, s: &[u8]) -> io::Result<()> {
     let mut table = [0u64; storage::TABLE + 1];
     let mut code = [0u64; storage::CODE + 1];
     let mut const_kinds = [0u8; storage::CONSTANTS + 1];
@@ -493,10 +516,10 @@ fn play_case(s: &[u8]) {
     free(&mut frames, &mut kinds, &mut words);
     let n = lists::find(s, 0, b'\n');
     if s.len() <= n {
-        return;
+        return Ok(());
     }
     let first = n + 1;
-    io::write_all(1, &s[..first]);
+    rt.write_all(&s[..first])?;
     let m = lists::find(s, first, b'<');
     let r = reader::read(
         &s[first..m],
@@ -507,10 +530,10 @@ fn play_case(s: &[u8]) {
         &mut texts,
     );
     if let Judged::Refused(_, _) = r {
-        io::write_all(1, b"not read\n");
-        return;
+        return rt.println("not read");
     }
     play_lines(
+        rt,
         &s[m..],
         &mut table,
         &mut code,
@@ -520,22 +543,34 @@ fn play_case(s: &[u8]) {
         &mut frames,
         &mut kinds,
         &mut words,
-    );
+    )
 }
 
 // ---- the list
 
-fn play(s: &[u8]) {
+fn play(rt: &impl Print, s: &[u8]) -> io::Result<()> {
     let mut at = 0;
     while at < s.len() {
         let e = lists::find(s, at + 1, b'#');
-        play_case(&s[at..e]);
+        play_case(rt, &s[at..e])?;
         at = e;
     }
+    Ok(())
 }
 
-fn main() {
+// Fills a buffer from the input, or as much of it as the input has. Answers how many bytes that is.
+fn read_full(rt: &impl Input, buffer: &mut [u8]) -> io::Result<usize>
+    ensures { IfOk result (λ n. n ≤ length buffer.new) }
+{
+    let room = buffer.len();
+    let mut rest = &mut buffer[..];
+    io::copy(&mut rt.reader().take(room as u64), &mut rest)?;
+    let left = rest.len();
+    Ok(room.saturating_sub(left))
+}
+
+fn main(rt: HostRuntime) -> io::Result<()> {
     let mut list = [0u8; 1048576];
-    let n = io::read_full(0, &mut list);
-    play(&list[..n]);
+    let n = read_full(&rt, &mut list)?;
+    play(&rt, &list[..n])
 }

@@ -15,12 +15,27 @@
 //   .                         the part's end
 #![tactic(auto)]
 
-ghost use Rattle.std.specs.Prelude.{◌<◌, ◌≤◌, length};
+ghost use Rattle.std.specs.Prelude.{◌<◌, ◌≤◌, length, IfOk};
 
 use checker::{Binary, Compare, Instruction, Operand, Unary};
 use constant::Value;
 use effects::{Effect, Go};
 use figures::Figure;
+use std::io;
+use std::io::Read;
+
+// ---- the input
+
+// Fills a buffer from the input, or as much of it as the input has. Answers how many bytes that is.
+fn read_full(rt: &impl Input, buffer: &mut [u8]) -> io::Result<usize>
+    ensures { IfOk result (λ n. n ≤ length buffer.new) }
+{
+    let room = buffer.len();
+    let mut rest = &mut buffer[..];
+    io::copy(&mut rt.reader().take(room as u64), &mut rest)?;
+    let left = rest.len();
+    Ok(room.saturating_sub(left))
+}
 
 // ---- where things lie
 
@@ -183,25 +198,15 @@ fn sum(s: Tally, t: Tally) -> Tally {
     }
 }
 
-fn report(t: Tally) {
-    io::write_all(1, b": compared ");
-    io::print_decimal(1, t.compared);
-    io::write_all(1, b", different ");
-    io::print_decimal(1, t.different);
-    io::write_all(1, b"\n");
+fn report(rt: &impl Print, t: Tally) -> io::Result<()> {
+    println!(rt; ": compared {}, different {}", t.compared, t.different)
 }
 
-fn finish(t: Tally) {
+fn finish(rt: &impl Print, t: Tally) -> io::Result<()> {
     if t.different == 0 {
-        io::write_all(1, b"all ");
-        io::print_decimal(1, t.compared);
-        io::write_all(1, b" agree\n");
-        return;
+        return println!(rt; "all {} agree", t.compared);
     }
-    io::print_decimal(1, t.different);
-    io::write_all(1, b" of ");
-    io::print_decimal(1, t.compared);
-    io::write_all(1, b" differ\n");
+    println!(rt; "{} of {} differ", t.different, t.compared)
 }
 
 // ---- a string
@@ -381,10 +386,11 @@ fn start() -> Run {
 }
 
 // A part's name.
-fn name(line: &[u8]) {
+fn name(rt: &impl Print, line: &[u8]) -> io::Result<()> {
     if 2 <= line.len() {
-        io::write_all(1, &line[2..]);
+        rt.write_all(&line[2..])?;
     }
+    Ok(())
 }
 
 impl Run {
@@ -451,24 +457,25 @@ fn operator_of(line: &[u8]) -> Row {
 }
 
 // A line that says something of the list itself: an operator, the end of a part or its name, a new list of operands.
-fn direct(line: &[u8], kind: u8, run: Run) -> Run {
+fn direct(rt: &impl Print, line: &[u8], kind: u8, run: Run) -> io::Result<Run> {
     match kind {
-        b'o' => run.with_row(operator_of(line)),
-        b'w' => run.with_operands(0),
+        b'o' => Ok(run.with_row(operator_of(line))),
+        b'w' => Ok(run.with_operands(0)),
         b'#' => {
-            name(line);
-            run
+            name(rt, line)?;
+            Ok(run)
         }
         b'.' => {
-            report(run.part);
-            run.close()
+            report(rt, run.part)?;
+            Ok(run.close())
         }
-        _ => run,
+        _ => Ok(run),
     }
 }
 
 // A line of the list.
 fn play_line(
+    rt: &impl Print,
     line: &[u8],
     table: &[u64],
     const_kinds: &mut [u8],
@@ -477,15 +484,15 @@ fn play_line(
     kinds: &mut [u8],
     words: &mut [u64],
     run: Run,
-) -> Run {
+) -> io::Result<Run> {
     let kind = slices::byte_at(line, 0, 0);
     if kind == b'f' {
-        return run.with_part(read(line, const_words, texts, run.part));
+        return Ok(run.with_part(read(line, const_words, texts, run.part)));
     }
     if (kind == b's') | (kind == b'v') {
         let i = run.operands;
         put_operand(line, const_kinds, const_words, texts, kinds, words, i);
-        return run.with_operands(std::num::wrapping_add_usize(i, 1));
+        return Ok(run.with_operands(std::num::wrapping_add_usize(i, 1)));
     }
     if kind == b'r' {
         let part = compare_row(
@@ -499,13 +506,14 @@ fn play_line(
             run.row,
             run.part,
         );
-        return run.with_part(part).with_row(next_row(run.row));
+        return Ok(run.with_part(part).with_row(next_row(run.row)));
     }
-    direct(line, kind, run)
+    direct(rt, line, kind, run)
 }
 
 // The lines of a page.
 fn play_page(
+    rt: &impl Print,
     page: &[u8],
     table: &[u64],
     const_kinds: &mut [u8],
@@ -514,13 +522,14 @@ fn play_page(
     kinds: &mut [u8],
     words: &mut [u64],
     before: Run,
-) -> Run {
+) -> io::Result<Run> {
     let mut run = before;
     let mut at = 0;
     while at < page.len() {
         let e = lists::find(page, at, b'\n');
         let next = e + 1;
         run = play_line(
+            rt,
             &page[at..e],
             table,
             const_kinds,
@@ -529,14 +538,15 @@ fn play_page(
             kinds,
             words,
             run,
-        );
+        )?;
         at = next;
     }
-    run
+    Ok(run)
 }
 
 // The pages, one after the other. The turns fall because a proved loop has to end; no list needs them all.
 fn play(
+    rt: &(impl Input + Print),
     page: &mut [u8],
     table: &[u64],
     const_kinds: &mut [u8],
@@ -544,16 +554,16 @@ fn play(
     texts: &mut [u8],
     kinds: &mut [u8],
     words: &mut [u64],
-) {
+) -> io::Result<()> {
     let mut run = start();
     let mut turns = u64::MAX;
     while turns > 0 {
-        let n = io::read_full(0, page);
+        let n = read_full(rt, page)?;
         if n == 0 {
-            finish(run.total);
-            return;
+            return finish(rt, run.total);
         }
         run = play_page(
+            rt,
             &page[..n],
             table,
             const_kinds,
@@ -562,17 +572,18 @@ fn play(
             kinds,
             words,
             run,
-        );
+        )?;
         turns -= 1;
     }
+    Ok(())
 }
 
-fn main() {
-    let mut page = io::large_buffer();
+fn main(rt: HostRuntime) -> io::Result<()> {
+    let mut page = [0u8; 65536];
     let mut table = [0u64; storage::TABLE];
     let mut const_kinds = [0u8; 256];
     let mut const_words = [0u64; 256];
-    let mut texts = io::large_buffer();
+    let mut texts = [0u8; 65536];
     let mut kinds = [0u8; 256];
     let mut words = [0u64; 256];
     slices::put_word(
@@ -582,6 +593,7 @@ fn main() {
         FIRST as u64,
     );
     play(
+        &rt,
         &mut page,
         &table,
         &mut const_kinds,
@@ -589,5 +601,5 @@ fn main() {
         &mut texts,
         &mut kinds,
         &mut words,
-    );
+    )
 }

@@ -7,26 +7,40 @@
 // than the value's own, and the two slices serve as `texts` and `const_words` too.
 #![tactic(auto)]
 
+ghost use Rattle.std.specs.Prelude.{◌≤◌, length, IfOk};
+
 use comparison::Compared;
 use constant::{Answer, BinaryOperatorError, Value};
-use libc::{STDIN_FILENO, STDOUT_FILENO};
+use std::io;
+use std::io::Read;
 
 // ---- the input
 
+// Fills a buffer from the input, or as much of it as the input has. Answers how many bytes that is.
+fn read_full(rt: &impl Input, buffer: &mut [u8]) -> io::Result<usize>
+    ensures { IfOk result (λ n. n ≤ length buffer.new) }
+{
+    let room = buffer.len();
+    let mut rest = &mut buffer[..];
+    io::copy(&mut rt.reader().take(room as u64), &mut rest)?;
+    let left = rest.len();
+    Ok(room.saturating_sub(left))
+}
+
 // The next byte, 0 where the input ends.
-fn next(input: &mut [u8], at: &mut usize, end: &mut usize) -> u8 {
+fn next(rt: &impl Input, input: &mut [u8], at: &mut usize, end: &mut usize) -> io::Result<u8> {
     let i = *at;
     if i < *end {
         *at = i + 1;
-        return slices::byte_at(input, 0, i);
+        return Ok(slices::byte_at(input, 0, i));
     }
-    let n = io::read_full(STDIN_FILENO, input);
+    let n = read_full(rt, input)?;
     *end = n;
     *at = 1;
     if n == 0 {
-        return 0;
+        return Ok(0);
     }
-    slices::byte_at(input, 0, 0)
+    Ok(slices::byte_at(input, 0, 0))
 }
 
 fn wide(b: u8) -> u64 {
@@ -41,59 +55,79 @@ fn digit(b: u8) -> u64 {
 }
 
 // A number of so many hexadecimal digits.
-fn hex(input: &mut [u8], at: &mut usize, end: &mut usize, digits: u64) -> u64 {
+fn hex(
+    rt: &impl Input,
+    input: &mut [u8],
+    at: &mut usize,
+    end: &mut usize,
+    digits: u64,
+) -> io::Result<u64> {
     let mut value: u64 = 0;
     let mut left = digits;
     while left > 0 {
-        value = (value << 4) | digit(next(input, at, end));
+        value = (value << 4) | digit(next(rt, input, at, end)?);
         left -= 1;
     }
-    value
+    Ok(value)
 }
 
 // The same with the blank or line end after it.
-fn field(input: &mut [u8], at: &mut usize, end: &mut usize, digits: u64) -> u64 {
-    let value = hex(input, at, end, digits);
-    next(input, at, end);
-    value
+fn field(
+    rt: &impl Input,
+    input: &mut [u8],
+    at: &mut usize,
+    end: &mut usize,
+    digits: u64,
+) -> io::Result<u64> {
+    let value = hex(rt, input, at, end, digits)?;
+    next(rt, input, at, end)?;
+    Ok(value)
 }
 
 // Writes the rest of the line.
-fn echo_line(input: &mut [u8], at: &mut usize, end: &mut usize) {
+fn echo_line(
+    rt: &(impl Input + Print),
+    input: &mut [u8],
+    at: &mut usize,
+    end: &mut usize,
+) -> io::Result<()> {
     let mut left: u64 = 80;
     while left > 0 {
-        let b = next(input, at, end);
+        let b = next(rt, input, at, end)?;
         if b == b'\n' {
-            return;
+            return Ok(());
         }
-        io::write_all(STDOUT_FILENO, &[b]);
+        rt.write_all(&[b])?;
         left -= 1;
     }
+    Ok(())
 }
 
 // ---- the values
 
 // A string's bytes, from `start` on. Answers how many.
 fn read_text(
+    rt: &impl Input,
     input: &mut [u8],
     at: &mut usize,
     end: &mut usize,
     bytes: &mut [u8],
     start: usize,
-) -> usize {
-    let count = field(input, at, end, 2) as usize;
+) -> io::Result<usize> {
+    let count = field(rt, input, at, end, 2)? as usize;
     let mut i = 0;
     while i < count {
-        let byte = hex(input, at, end, 2) % 256;
+        let byte = hex(rt, input, at, end, 2)? % 256;
         slices::put_byte(bytes, start, i, byte as u8);
         i += 1;
     }
-    next(input, at, end);
-    count
+    next(rt, input, at, end)?;
+    Ok(count)
 }
 
 // The value with number i, below 256. Answers where the next string's bytes go.
 fn read_value(
+    rt: &impl Input,
     input: &mut [u8],
     at: &mut usize,
     end: &mut usize,
@@ -101,36 +135,37 @@ fn read_value(
     words: &mut [u64],
     i: usize,
     start: usize,
-) -> usize {
-    if next(input, at, end) == b's' {
-        let count = read_text(input, at, end, bytes, start);
+) -> io::Result<usize> {
+    if next(rt, input, at, end)? == b's' {
+        let count = read_text(rt, input, at, end, bytes, start)?;
         slices::put_byte(bytes, 0, i, 4);
         slices::put_word(words, 0, i, (256 | i) as u64);
         slices::put_word(words, 256, i, ((start << 16) | count) as u64);
-        return std::num::wrapping_add_usize(start, count);
+        return Ok(std::num::wrapping_add_usize(start, count));
     }
-    slices::put_byte(bytes, 0, i, next(input, at, end) % 16);
-    next(input, at, end);
-    slices::put_word(words, 0, i, field(input, at, end, 16));
-    start
+    slices::put_byte(bytes, 0, i, next(rt, input, at, end)? % 16);
+    next(rt, input, at, end)?;
+    slices::put_word(words, 0, i, field(rt, input, at, end, 16)?);
+    Ok(start)
 }
 
 // A list of values, in place of the one before. Answers how many.
 fn read_values(
+    rt: &impl Input,
     input: &mut [u8],
     at: &mut usize,
     end: &mut usize,
     bytes: &mut [u8],
     words: &mut [u64],
-) -> usize {
-    let count = field(input, at, end, 2) as usize;
+) -> io::Result<usize> {
+    let count = field(rt, input, at, end, 2)? as usize;
     let mut start: usize = 256;
     let mut i = 0;
     while i < count {
-        start = read_value(input, at, end, bytes, words, i, start);
+        start = read_value(rt, input, at, end, bytes, words, i, start)?;
         i += 1;
     }
-    count
+    Ok(count)
 }
 
 // ---- results
@@ -238,12 +273,12 @@ fn answer_at(operation: u64, place: usize, n: usize, bytes: &[u8], words: &[u64]
 }
 
 // The next byte that ends no row.
-fn next_tag(input: &mut [u8], at: &mut usize, end: &mut usize) -> u8 {
-    let b = next(input, at, end);
+fn next_tag(rt: &impl Input, input: &mut [u8], at: &mut usize, end: &mut usize) -> io::Result<u8> {
+    let b = next(rt, input, at, end)?;
     if b == b'\n' {
-        return next(input, at, end);
+        return next(rt, input, at, end);
     }
-    b
+    Ok(b)
 }
 
 // The number of a zero divisor's error, by that of its operator's own.
@@ -257,16 +292,22 @@ fn by_zero(error: u64) -> u64 {
 
 // The next result of a list, of an operator whose own error has this number: `1` and `2` are that error by the operand
 // that it names, `z` is a zero divisor's.
-fn expected(input: &mut [u8], at: &mut usize, end: &mut usize, error: u64) -> Outcome {
-    let tag = next_tag(input, at, end);
+fn expected(
+    rt: &impl Input,
+    input: &mut [u8],
+    at: &mut usize,
+    end: &mut usize,
+    error: u64,
+) -> io::Result<Outcome> {
+    let tag = next_tag(rt, input, at, end)?;
     if (tag == b'i') | (tag == b'n') {
-        return unnamed(tag, hex(input, at, end, 16));
+        return Ok(unnamed(tag, hex(rt, input, at, end, 16)?));
     }
     match tag {
-        b'1' => failed(error, 1),
-        b'2' => failed(error, 2),
-        b'z' => failed(by_zero(error), 2),
-        _ => unnamed(tag, 0),
+        b'1' => Ok(failed(error, 1)),
+        b'2' => Ok(failed(error, 2)),
+        b'z' => Ok(failed(by_zero(error), 2)),
+        _ => Ok(unnamed(tag, 0)),
     }
 }
 
@@ -297,53 +338,44 @@ fn counted(t: Tally, want: Outcome, got: Outcome) -> Tally {
     }
 }
 
-fn report(t: Tally) {
-    io::write_all(STDOUT_FILENO, b": compared ");
-    io::print_decimal(STDOUT_FILENO, t.compared);
-    io::write_all(STDOUT_FILENO, b", different ");
-    io::print_decimal(STDOUT_FILENO, t.different);
-    io::write_all(STDOUT_FILENO, b"\n");
+fn report(rt: &impl Print, t: Tally) -> io::Result<()> {
+    println!(rt; ": compared {}, different {}", t.compared, t.different)
 }
 
 // One operator: its number, its error's number, how many results, its name, the results.
 fn operator(
+    rt: &(impl Input + Print),
     input: &mut [u8],
     at: &mut usize,
     end: &mut usize,
     n: usize,
     bytes: &[u8],
     words: &[u64],
-) -> Tally {
-    let operation = field(input, at, end, 2);
-    let error = field(input, at, end, 2);
-    let count = field(input, at, end, 6) as usize;
-    echo_line(input, at, end);
+) -> io::Result<Tally> {
+    let operation = field(rt, input, at, end, 2)?;
+    let error = field(rt, input, at, end, 2)?;
+    let count = field(rt, input, at, end, 6)? as usize;
+    echo_line(rt, input, at, end)?;
     let mut tally = Tally {
         compared: 0,
         different: 0,
     };
     let mut place = 0;
     while place < count {
-        let want = expected(input, at, end, error);
+        let want = expected(rt, input, at, end, error)?;
         let got = answer_at(operation, place, n, bytes, words);
         tally = counted(tally, want, got);
         place += 1;
     }
-    report(tally);
-    tally
+    report(rt, tally)?;
+    Ok(tally)
 }
 
-fn finish(t: Tally) {
+fn finish(rt: &impl Print, t: Tally) -> io::Result<()> {
     if t.different == 0 {
-        io::write_all(STDOUT_FILENO, b"all ");
-        io::print_decimal(STDOUT_FILENO, t.compared);
-        io::write_all(STDOUT_FILENO, b" agree\n");
-        return;
+        return println!(rt; "all {} agree", t.compared);
     }
-    io::print_decimal(STDOUT_FILENO, t.different);
-    io::write_all(STDOUT_FILENO, b" of ");
-    io::print_decimal(STDOUT_FILENO, t.compared);
-    io::write_all(STDOUT_FILENO, b" differ\n");
+    println!(rt; "{} of {} differ", t.different, t.compared)
 }
 
 // How many values the list has, and what all operators so far came to.
@@ -362,6 +394,7 @@ fn sum(s: Tally, t: Tally) -> Tally {
 
 // A list of values or an operator; a line's end is passed over.
 fn carry_out(
+    rt: &(impl Input + Print),
     command: u8,
     run: Run,
     input: &mut [u8],
@@ -369,23 +402,28 @@ fn carry_out(
     end: &mut usize,
     bytes: &mut [u8],
     words: &mut [u64],
-) -> Run {
+) -> io::Result<Run> {
     let total = run.total;
     let values = run.values;
     if command == b'w' {
-        let values = read_values(input, at, end, bytes, words);
-        return Run { values, total };
+        let values = read_values(rt, input, at, end, bytes, words)?;
+        return Ok(Run { values, total });
     }
     if command == b'o' {
-        let t = operator(input, at, end, values, bytes, words);
+        let t = operator(rt, input, at, end, values, bytes, words)?;
         let total = sum(total, t);
-        return Run { values, total };
+        return Ok(Run { values, total });
     }
-    run
+    Ok(run)
 }
 
 // The lists, one after the other. The turns fall because a proved loop has to end; no input needs them all.
-fn replay(input: &mut [u8], bytes: &mut [u8], words: &mut [u64]) {
+fn replay(
+    rt: &(impl Input + Print),
+    input: &mut [u8],
+    bytes: &mut [u8],
+    words: &mut [u64],
+) -> io::Result<()> {
     let mut at = 0;
     let mut end = 0;
     let mut run = Run {
@@ -397,19 +435,19 @@ fn replay(input: &mut [u8], bytes: &mut [u8], words: &mut [u64]) {
     };
     let mut turns = u64::MAX;
     while turns > 0 {
-        let command = next(input, &mut at, &mut end);
+        let command = next(rt, input, &mut at, &mut end)?;
         if command == 0 {
-            finish(run.total);
-            return;
+            return finish(rt, run.total);
         }
-        run = carry_out(command, run, input, &mut at, &mut end, bytes, words);
+        run = carry_out(rt, command, run, input, &mut at, &mut end, bytes, words)?;
         turns -= 1;
     }
+    Ok(())
 }
 
-fn main() {
-    let mut input = io::large_buffer();
-    let mut bytes = io::buffer();
+fn main(rt: HostRuntime) -> io::Result<()> {
+    let mut input = [0u8; 65536];
+    let mut bytes = [0u8; 4096];
     let mut words = [0u64; 512];
-    replay(&mut input, &mut bytes, &mut words);
+    replay(&rt, &mut input, &mut bytes, &mut words)
 }

@@ -9,10 +9,6 @@ returns-in-Refused c =
     put_as (start-refused _ _ _ _ c.start-c.ensures _ _ _ c.in-Refused.is _ c.check_answer.ensures)
     (answer-put _ c.requires c.answer_line-n.ensures)
 
-pub put_run-requires : goal.put_run-requires
-put_run-requires c =
-    c.requires
-
 pub returns : goal.returns
 returns c =
     put_as (start-run _ _ _ _ c.start-c.ensures c.in_default.is) c.put_run.ensures

@@ -27,12 +27,6 @@ module _ (c : After-value_line-n) where
   room : Room c.args.out.now c.args.at (line_of bytes)
   room = rw told c.requires
 
-pub overflow_add-result : goal.overflow_add-result
-overflow_add-result c =
-    let r = room (goal.at.overflow_add-result c).After-value_line-n in
-    let n = (part-put c.args.out.now c.args.at _ _ _ r c.value_line-n.ensures).next in
-    omega (arith, r, n)
-
 pub returns : goal.returns
 returns c =
     let put = (goal.at.returns c).After-value_line-n in

@@ -7,26 +7,13 @@ use Rattle.deletion.specs.Output.{value_lines}
 use Rattle.deletion.proofs.Puts.{rest, values-start, values-turn, values-done}
 use Rattle.deletion.proofs.output.put_values.Goals as goal
 
-pub loop-i-init : goal.loop-i-init
-loop-i-init c =
-    left-start c.args.out.now c.args.at _ _ (values-start _ _ _ _ _ c.args.n c.args.first)
-
 pub put_value-to-requires : goal.put_value-to-requires
 put_value-to-requires c =
     left-room c.loop-i.invariant c.requires (values-turn _ _ _ _ _ c.args.n c.args.first c.loop-i.i c.loop-i-test.true)
 
-pub overflow_add-i : goal.overflow_add-i
-overflow_add-i c = omega arith
-
-pub loop-i-smaller : goal.loop-i-smaller
-loop-i-smaller c = omega arith
-
 pub loop-i-preserved : goal.loop-i-preserved
 loop-i-preserved c =
     left-more c.loop-i.invariant (values-turn _ _ _ _ _ c.args.n c.args.first c.loop-i.i c.loop-i-test.true) c.put_value-to.ensures
-
-pub shape_of-out : goal.shape_of-out
-shape_of-out c = c.loop-i.invariant.same
 
 pub returns : goal.returns
 returns c =
