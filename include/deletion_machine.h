@@ -122,7 +122,7 @@ enum dm_number {
     DM_BUDGET = 70              /* the budget is used, and the machine still runs */
 };
 
-/* whether a number is a Lua error's: `isLuaError` of the definitions */
+/* whether a number is a Lua error's: `is_lua_error` of the definitions */
 #define DM_IS_LUA_ERROR(number) \
     (((number) >= DM_ERROR_ADD && (number) <= DM_ERROR_MODULO_BY_ZERO) || \
      ((number) >= DM_ERROR_NO_FUNCTION && (number) <= DM_ERROR_CELLS))

@@ -3,7 +3,7 @@
 
     python3 tools/sessions/command.py
 
-The program has to be there, as `rt check deletion` leaves it. What goes beyond the program is tested in a copy, whose toolchain only seems to be
+The program has to be there, as `rt ci` or `rt run` leaves it. What goes beyond the program is tested in a copy, whose toolchain only seems to be
 one: see Copy."""
 import contextlib
 import os
@@ -439,16 +439,17 @@ class Surroundings(Case):
                 self.ended(0, Images.ANSWER, '', run('-', '7', env=env, cwd=cwd, stdin=returning(1)))
 
 
-# Says `version`, and checks as a test has it; it is run in the repository.
+# Says `version`, and builds as a test has it; it is run in the crate's folder.
 RT = '''#!/bin/sh
 case $* in
 version) echo "%s" ;;
-'check deletion') %s ;;
+run) %s ;;
 *) exit 3 ;;
 esac
 '''
-BUILDS = 'mkdir -p target/bin; echo %s >target/bin/deletion' % FINISHED.strip()
-PROVES = "echo 'rt: slices proved (10 s)'; "
+PROGRAM = 'crates/deletion/out/deletion'
+BUILDS = 'mkdir -p out; echo %s >out/deletion' % FINISHED.strip()
+PROVES = "proves() { echo \"rt: chose --jobs 1 for $1\" >&2; echo 'logic=proved functions=1' >&2; }; proves slices; "
 # Stands for the C library's loader, which runs the program: writes what the program's file has, the image's first line, and its words.
 LOADER = '''#!/bin/sh
 cat "$3"
@@ -469,22 +470,23 @@ class Copy(Case):
             shutil.copy(os.path.join(ROOT, name), self.path(name))
         self.write('toolchain', 'kit 1\n')
         self.write('crates.txt', '# a comment\nslices:\nchoices: slices\nother: slices\ndeletion: slices choices io os\n')
-        self.write('crates/slices/lib.rt', '')
+        self.write('crates/slices/src/lib.rt', '')
+        self.write('crates/deletion/src/main.rt', '')
         self.loader(LOADER)
         self.toolchain(PROVES + BUILDS)
 
     def loader(self, text):
-        self.write('kit/on/%s/toolchain/lib/ld-linux-x86-64.so.2' % os.uname().machine, text, 0o755)
+        self.write('kit/toolchain/lib/ld-linux-x86-64.so.2', text, 0o755)
 
     def toolchain(self, check, version='kit 1'):
         self.write('kit/bin/rt', RT % (version, check), 0o755)
 
     def program(self, text):
         """As if it had been built after the crates."""
-        os.utime(self.write('target/bin/deletion', text), (2**32 - 1,) * 2)
+        os.utime(self.write(PROGRAM, text), (2**32 - 1,) * 2)
 
     def environment(self):
-        return {'PATH': self.path('kit', 'bin') + ':' + os.environ['PATH'], 'RT': None, 'RATTLE_HOME': None}
+        return {'PATH': self.path('kit', 'bin') + ':' + os.environ['PATH'], 'RT': None}
 
     def run_copy(self, *words, stdin=b'an image\n', env=None, **more):
         return run(*words, command=self.path('deletion'), stdin=stdin, env={**self.environment(), **(env or {})}, **more)
@@ -546,44 +548,43 @@ class Handing(Copy):
 
 
 class Building(Copy):
-    BEGINS = 'deletion: proving and building the program (rt check deletion); from nothing this takes some minutes\n'
+    BEGINS = 'deletion: proving and building the program (rt run in crates/deletion); from nothing this takes some minutes\n'
     ANSWER = FINISHED + 'image an image\n'
 
     def test_a_line_for_each_crate(self):
-        self.toolchain("echo 'rt: slices proved (unchanged since it was last proved)'; echo 'fn choices::pick: proved'; "
-                       "echo 'rt: choices proved (10 s)'; echo 'rt: deletion proved (1 min 3 s)' >&2; " + BUILDS)
-        lines = self.BEGINS + 'deletion: 2 of 3 crates proved: choices, 10 s\ndeletion: 3 of 3 crates proved: deletion, 1 min 3 s\n'
+        # of slices, which was proved before, nothing is said
+        self.toolchain(PROVES.replace('slices', 'choices') + "echo 'fn deletion::main: proved' >&2; proves deletion; echo f001; " + BUILDS)
+        lines = self.BEGINS + 'deletion: 2 of 3 crates proved: choices\ndeletion: 3 of 3 crates proved: deletion\n'
         for shell in SHELLS:
             done = self.run_copy(shell=shell)
             self.ended(0, self.ANSWER, lines, done)
             self.assertEqual(lines, done.err)
-            os.remove(self.path('target/bin/deletion'))
+            os.remove(self.path(PROGRAM))
 
     def test_as_they_come(self):
         """The toolchain goes on only after its first line has been seen."""
         fifo = self.path('fifo')
         os.mkfifo(fifo)
-        self.toolchain("echo 'rt: slices proved (10 s)'; read go <fifo; echo 'rt: choices proved (2 s)'; " + BUILDS)
+        self.toolchain(PROVES + "read go <'%s'; proves choices; " % fifo + BUILDS)
         with started([self.path('deletion')], self.environment()) as process:
             self.assertEqual(self.BEGINS.encode(), process.stderr.readline())
-            self.assertEqual(b'deletion: 1 of 3 crates proved: slices, 10 s\n', process.stderr.readline())
+            self.assertEqual(b'deletion: 1 of 3 crates proved: slices\n', process.stderr.readline())
             self.assertIsNone(process.poll())
             with open(fifo, 'w') as go:
                 go.write('go\n')
             out, err = process.communicate(b'an image\n')
-        self.assertEqual((0, self.ANSWER.encode(), b'deletion: 2 of 3 crates proved: choices, 2 s\n'), (process.returncode, out, err))
+        self.assertEqual((0, self.ANSWER.encode(), b'deletion: 2 of 3 crates proved: choices\n'), (process.returncode, out, err))
 
     def test_only_where_a_crate_has_changed(self):
         self.program(FINISHED)
         self.ended(0, self.ANSWER + 'word 5\n', '', self.run_copy('--budget', '5'))
-        os.utime(self.path('target/bin/deletion'), (1, 1))
+        os.utime(self.path(PROGRAM), (1, 1))
         self.ended(0, self.ANSWER + 'word 5\n', '1 of 3 crates proved', self.run_copy('--budget', '5'))
         self.ended(0, self.ANSWER + 'word 5\n', '', self.run_copy('--budget', '5'))
 
     def test_again_where_the_program_is_missing(self):
-        """The toolchain would not make it again while its stamp is there."""
-        self.write('target/stamp/deletion.stamp', '')
-        self.toolchain(PROVES + '[ ! -e target/stamp/deletion.stamp ] && %s' % BUILDS)
+        """Also where the toolchain's own note of it is still there."""
+        self.write(PROGRAM + '.stamp', '')
         self.ended(0, self.ANSWER, '1 of 3 crates proved', self.run_copy())
 
     def test_the_image_is_left_to_the_program(self):
@@ -591,14 +592,14 @@ class Building(Copy):
         self.ended(0, self.ANSWER, '1 of 3 crates proved', self.run_copy())
 
     def test_a_failure_shows_the_end_of_what_was_said(self):
-        self.toolchain(PROVES + 'for i in 1 2 3 4 5; do for j in 1 2 3 4 5 6 7 8 9 10; do echo "line $i$j"; done; done; printf "the last"; exit 1')
+        self.toolchain(PROVES + 'exec >&2; for i in 1 2 3 4 5; do for j in 1 2 3 4 5 6 7 8 9 10; do echo "line $i$j"; done; done; printf "the last"; exit 1')
         for shell in SHELLS:
             done = self.run_copy(shell=shell)
             self.ended(2, '', 'line 510\n', done)
             self.assertNotIn('line 11\n', done.err)
             self.assertIn('the last', done.err)
             self.assertTrue(done.err.endswith('deletion: the program could not be built\n'))
-            self.assertFalse(os.path.exists(self.path('target/bin/deletion')))
+            self.assertFalse(os.path.exists(self.path(PROGRAM)))
 
     def test_a_toolchain_that_makes_no_program(self):
         """Nothing may stand in the program's place afterwards."""
@@ -616,7 +617,7 @@ class Building(Copy):
 
     def test_a_change_while_it_is_built(self):
         """It may have come too late for the toolchain."""
-        self.toolchain(PROVES + 'sleep 0.05; touch crates/slices/lib.rt; ' + BUILDS)
+        self.toolchain(PROVES + 'sleep 0.05; touch ../slices/src/lib.rt; ' + BUILDS)
         for _ in range(2):
             self.ended(0, self.ANSWER, '1 of 3 crates proved', self.run_copy())
 
@@ -632,7 +633,7 @@ class Building(Copy):
                     done = run(command=command, shell=shell, cwd=cwd, stdin=b'an image\n', env={**self.environment(), **env})
                     self.ended(0, self.ANSWER, '1 of 3 crates proved: slices', done)
                     self.assertNotIn("can't be run", done.err)
-                    os.remove(self.path('target/bin/deletion'))
+                    os.remove(self.path(PROGRAM))
 
     def test_a_shell_that_finds_the_script_by_itself(self):
         """bash then doesn't say where it lies: nothing may be built in a folder that isn't the repository."""
@@ -663,6 +664,6 @@ class WalkThrough(Case):
 
 
 if __name__ == '__main__':
-    if not os.path.isfile(os.path.join(ROOT, 'target', 'bin', 'deletion')):
-        sys.exit('command: target/bin/deletion is missing: rt check deletion builds it')
+    if not os.path.isfile(os.path.join(ROOT, PROGRAM)):
+        sys.exit('command: %s is missing: rt run in crates/deletion builds it' % PROGRAM)
     unittest.main()
