@@ -7,7 +7,6 @@ use mathlib.Core.List.{List, [], ◌∷◌}
 use lib.ListN.{length}
 use lib.Seq.{take_all}
 use Rattle.constant.specs.Values.{text_of}
-use Rattle.constant.specs.declared.Value.{Value}
 use Rattle.constant.specs.declared.Value.TheVariants as value
 use Rattle.figures.specs.Figures.{figure_of}
 use Rattle.figures.specs.Figured.{read_as}

@@ -1,8 +1,8 @@
 -- An instruction's number and its five bytes: each byte comes back, and so does every number below 2^40. Assumes nothing.
-use Prim.Native.Nat.{ℕ, ◌+◌, ◌*◌, ◌/◌, ◌%◌, ◌^◌, ◌<◌}
+use Prim.Native.Nat.{ℕ, ◌+◌, ◌*◌, ◌/◌, ◌%◌, ◌<◌}
 use native.Mathlib.Omega.{arith}
 use mathlib.Core.Path.{◌≡◌, refl, sym}
-use Rattle.image.specs.Instruction.{packed, operation_of, flags_of, a_of, b_of, c_of, Packs, BytesBack, NumberBack}
+use Rattle.image.specs.Instruction.{packed, BytesBack, NumberBack}
 
 -- the highest part of a sum of three, above 34 bits
 top : (l m n : ℕ) → l < 0x100_0000 → m < 0x400 → (l + m * 0x100_0000 + n * 0x4_0000_0000) / 0x4_0000_0000 ≡ n

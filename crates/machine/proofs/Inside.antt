@@ -8,7 +8,7 @@ use mathlib.Core.List.{List, [], ◌∷◌}
 use lib.ListN.{length, get_or}
 use lib.Dec.{eqb, ltb}
 use borrow.Author.Tests.{eq-eqb, eqb-true, eqb-false, ltb-true}
-use Rattle.image.specs.Frames.{F, opens, const, str, code, desc, shape}
+use Rattle.image.specs.Frames.{F, const, str, code, desc, shape}
 use Rattle.image.specs.declared.Counts.{Counts}
 use Rattle.image.specs.declared.Step.TheVariants.{On, Done}
 use Rattle.choices.proofs.Choices.{by_bool, cond_cases, and_right, and_left}

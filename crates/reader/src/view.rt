@@ -1,4 +1,4 @@
-// The line reader: a view that holds the caller's image and its place. What takes or makes one is proved by hand; the work is line's.
+// The line reader: a view that holds the caller's image and its place; the work is line's.
 ghost use Rattle.std.specs.Prelude.{◌<◌, length};
 ghost use Rattle.reader.specs.Steps.{Advance};
 

@@ -1,23 +1,22 @@
 -- Descriptors of frames that lie in a storage: those that are left of the prototype that was opened last, and those of the prototypes after it; one frame, and the rest
 -- after it. Assumes nothing.
-use Prim.Native.Nat.{ℕ, zero, suc, ◌+◌, ◌-◌, ◌*◌, ◌/◌, ◌%◌, ◌≤◌, ◌<◌}
+use Prim.Native.Nat.{ℕ, zero, suc, ◌+◌, ◌-◌, ◌*◌, ◌/◌, ◌≤◌, ◌<◌}
 use native.Mathlib.Omega.{arith}
-use native.Mathlib.Nat.{add-zero}
-use mathlib.Core.Path.{◌≡◌, refl, sym, ap, ◌∙◌}
+use mathlib.Core.Path.{◌≡◌, refl, sym, ◌∙◌}
 use mathlib.Core.Bool.{true}
 use mathlib.Core.List.{List, [], ◌∷◌}
 use lib.ListN.{length, get_or}
-use borrow.Author.Tests.{eqb-true, eq-eqb, le-leb, lt-leb}
+use borrow.Author.Tests.{eqb-true, eq-eqb, le-leb}
 use Rattle.image.specs.Frames.{F, opens, const, str, code, ends, bad, desc, shape}
 use Rattle.image.specs.declared.Counts.{Counts}
 use Rattle.image.specs.declared.Step.TheVariants.{On, Done}
 use Rattle.choices.proofs.Choices.{cond-true}
-use Rattle.storage.specs.Layout.{Storage, descriptor_word, descriptors_ahead, descriptor_block}
+use Rattle.storage.specs.Layout.{descriptor_word, descriptors_ahead}
 use Rattle.storage.specs.Fields.{entry_place, descriptors_place, descriptors_of, descriptor_of}
 use Rattle.storage.specs.Stored.{holds_at, describes}
-use Rattle.storage.specs.Cursor.{current, descriptors_here, past}
+use Rattle.storage.specs.Cursor.{descriptors_here, past}
 use Rattle.storage.specs.declared.Tops.{Tops}
-use Rattle.storage.proofs.Runs.{Runs, Told, opened, word, text, instruction, ended, described, Begun, none_ahead}
+use Rattle.storage.proofs.Runs.{Runs, Told, opened, word, text, instruction, ended, described, none_ahead}
 
 -- how many descriptors the last of p prototypes has; 0 where there is none
 unfoldable pub held_by : List ℕ → ℕ → ℕ

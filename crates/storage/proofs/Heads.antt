@@ -5,7 +5,7 @@ use mathlib.Core.Path.{◌≡◌, refl, sym, ap}
 use mathlib.Core.List.{List, [], ◌∷◌}
 use lib.ListN.{length, get_or}
 use borrow.Author.Tests.{le-leb, lt-ltb, le-ltb, eq-eqb, ne_eqb}
-use Rattle.image.specs.Frames.{F, opens, const, str, code, desc, shape}
+use Rattle.image.specs.Frames.{F, opens, const, str, desc, shape}
 use Rattle.image.specs.declared.Counts.{Counts}
 use Rattle.image.specs.declared.Frame.{Frame}
 use Rattle.image.specs.declared.Frame.TheVariants.{Open, Const, Str, Code, End, Desc}
@@ -18,7 +18,7 @@ use Rattle.storage.specs.declared.Tops.{Tops}
 use Rattle.storage.proofs.Places.{at_first, at-within}
 use Rattle.storage.proofs.Runs.{Runs, last, next, Told, opened, word, text, instruction, ended, described, told_as}
 use Rattle.storage.proofs.Lies.{Stands, all}
-use Rattle.storage.proofs.Described.{held_by, here-held, Descs, settled, unsettled}
+use Rattle.storage.proofs.Described.{here-held, Descs, settled, unsettled}
 use Rattle.storage.proofs.Seen.{Entry, Constant, Instruction, open-seen, end_seen, word-seen, text-seen, instruction-seen, desc-room}
 
 -- the frame that a storage says at a place

@@ -1,15 +1,8 @@
 -- `checker::all_in` meets its contract: the descriptors below i are in range. Assumes nothing.
-use mathlib.Core.Path.{◌≡◌, ◌∙◌}
-use mathlib.Core.Bool.{true}
 use Rattle.std.proofs.lemmas.Bool.{not_from_false, not_from_true}
-use Prim.Native.Nat.{◌-◌, ◌≤◌}
 use native.Mathlib.Omega.{arith}
-use borrow.Author.Rules.{rules}
-use Rattle.choices.specs.Below.{all_below}
 use Rattle.choices.proofs.Choices.{denied, granted}
 use Rattle.choices.proofs.Below.{all_none, all_more, all-fails, all_end}
-use Rattle.storage.specs.Fields.{descriptor_of}
-use Rattle.checker.specs.Captures.{descriptor_in}
 use Rattle.checker.proofs.all_in.Goals as goal
 
 pub loop-i-init : goal.loop-i-init

@@ -1,11 +1,7 @@
-use mathlib.Core.Path.{◌≡◌, ◌∙◌}
+use mathlib.Core.Path.{◌≡◌}
 use mathlib.Core.Bool.{true}
 use Prim.Native.Nat.{◌-◌, ◌≤◌}
-use native.Mathlib.Omega.{arith}
-use borrow.Author.Rules.{rules}
 use Rattle.choices.specs.Below.{all_below}
-use Rattle.choices.proofs.Choices.{denied, granted}
-use Rattle.choices.proofs.Below.{all_none, all_more, all-fails, all_end}
 use Rattle.storage.specs.Fields.{descriptor_of}
 use Rattle.checker.specs.Captures.{descriptor_in}
 use Rattle.checker.proofs.all_in.Given as goal

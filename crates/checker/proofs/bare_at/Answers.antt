@@ -1,5 +1,4 @@
 -- `checker::bare_at` meets its contract: the tests are those of `bare_at`. Assumes nothing.
-use borrow.Author.Rules.{rules}
 use borrow.Author.Tests.{eq-eqb, ne_eqb}
 use Rattle.checker.specs.Captures.{bare_at}
 use Rattle.checker.proofs.bare_at.Goals as goal

@@ -1,7 +1,6 @@
 -- `checker::broken` meets its contract: the number in a refusal is that of the lowest rule broken, and what is no refusal breaks none.
 -- Assumes nothing.
 use mathlib.Core.Path.{◌≡◌, sym}
-use borrow.Author.Rules.{rules}
 use borrow.Author.Tests.{eqb-true}
 use lib.Dec.{eqb}
 use Prim.Native.Nat.{ℕ}

@@ -1,5 +1,4 @@
 -- `checker::captures_at` meets its contract: only a Closure names a prototype. Assumes nothing.
-use borrow.Author.Rules.{rules}
 use borrow.Author.Tests.{eq-eqb, ne_eqb}
 use Rattle.checker.specs.Captures.{captures_at}
 use Rattle.checker.proofs.captures_at.Goals as goal

@@ -1,5 +1,4 @@
 -- `checker::captures_in` meets its contract: more than 8 are none in range. Assumes nothing.
-use borrow.Author.Rules.{rules}
 use borrow.Author.Tests.{le-leb, lt-leb}
 use Rattle.checker.specs.Captures.{captures_in}
 use Rattle.checker.proofs.captures_in.Goals as goal

@@ -1,5 +1,4 @@
 -- `checker::class_of` meets its contract: a Call and a Return hand their operands on, every other variant none. Assumes nothing.
-use borrow.Author.Rules.{rules}
 use Rattle.checker.proofs.class_of.Goals as goal
 
 pub returns-in-Call : goal.returns-in-Call

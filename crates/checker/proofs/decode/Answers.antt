@@ -1,6 +1,5 @@
 -- `checker::decode` meets its contract: each arm is the decoder of its operation's shape. Assumes nothing.
 use mathlib.Core.Path.{refl}
-use borrow.Author.Rules.{rules}
 use Rattle.checker.specs.Operations as shape
 use Rattle.checker.specs.Operations.{shape_of}
 use Rattle.checker.specs.Decode.{unary_of, compare_of, binary_of, operands_of}

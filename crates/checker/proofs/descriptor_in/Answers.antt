@@ -1,5 +1,4 @@
 -- `checker::descriptor_in` meets its contract: below 256 it is a register, from there on an upvalue. Assumes nothing.
-use borrow.Author.Rules.{rules}
 use borrow.Author.Tests.{lt-ltb, le-ltb}
 use Rattle.checker.specs.Captures.{descriptor_in}
 use Rattle.checker.proofs.descriptor_in.Goals as goal

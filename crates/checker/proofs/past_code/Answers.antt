@@ -1,6 +1,5 @@
 -- `checker::past_code` meets its contract: the first instruction past the end breaks a rule, or the last does. Assumes nothing.
-use mathlib.Core.Path.{◌≡◌, sym, ◌∙◌}
-use borrow.Author.Rules.{rules}
+use mathlib.Core.Path.{sym, ◌∙◌}
 use Rattle.checker.proofs.Turns.{number, code-bad}
 use Rattle.checker.proofs.Past.{past-last}
 use Rattle.checker.proofs.past_code.Goals as goal

@@ -1,11 +1,8 @@
 -- `checker::search` meets its contract: what is left of the search, done from here, is the whole of it. A turn's laws are in proofs/Turns,
 -- those of instructions past the code's end in proofs/Past. Assumes nothing.
-use Prim.Native.Nat.{◌≤◌, ◌<◌, ◌+◌, ◌-◌}
-use mathlib.Core.Path.{◌≡◌, refl, sym, ◌∙◌}
+use Prim.Native.Nat.{◌≤◌, ◌<◌}
+use mathlib.Core.Path.{refl, sym, ◌∙◌}
 use native.Mathlib.Omega.{arith}
-use borrow.Author.Rules.{rules}
-use Rattle.checker.specs.Check.{code_from, protos_from, search_of}
-use Rattle.checker.specs.declared.Checked.TheVariants.{Accepted}
 use Rattle.checker.proofs.Turns.{number, code-good, code-bad, code-end, search-none, search-start, proto_empty, proto_open, search-end}
 use Rattle.checker.proofs.Past.{past-found}
 use Rattle.checker.proofs.search.Goals as goal

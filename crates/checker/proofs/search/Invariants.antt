@@ -1,11 +1,7 @@
-use Prim.Native.Nat.{◌≤◌, ◌<◌, ◌+◌, ◌-◌}
-use mathlib.Core.Path.{◌≡◌, refl, sym, ◌∙◌}
-use native.Mathlib.Omega.{arith}
-use borrow.Author.Rules.{rules}
+use Prim.Native.Nat.{◌≤◌, ◌+◌, ◌-◌}
+use mathlib.Core.Path.{◌≡◌}
 use Rattle.checker.specs.Check.{code_from, protos_from, search_of}
 use Rattle.checker.specs.declared.Checked.TheVariants.{Accepted}
-use Rattle.checker.proofs.Turns.{number, code-good, code-bad, code-end, search-none, search-start, proto_empty, proto_open, search-end}
-use Rattle.checker.proofs.Past.{past-found}
 use Rattle.checker.proofs.search.Given as goal
 
 abbrev pub invariant-loop-i : goal.invariant-loop-i

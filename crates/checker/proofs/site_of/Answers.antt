@@ -1,5 +1,4 @@
 -- `checker::site_of` meets its contract: the limits and the word are the storage's, and what rule 16 looks at is found by both. Assumes nothing.
-use borrow.Author.Rules.{rules}
 use Rattle.checker.proofs.site_of.Goals as goal
 
 pub returns : goal.returns

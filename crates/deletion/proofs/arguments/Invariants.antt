@@ -1,11 +1,9 @@
-use Prim.Native.Nat.{◌-◌, ◌≤◌}
-use mathlib.Core.Path.{◌≡◌}
-use lib.ListN.{length}
-use borrow.Author.Rules.{rules}
+-- There are nine at most. Assumes nothing.
+use Rattle.std.proofs.Common.{◌-◌, ◌≤◌}
 use Rattle.deletion.proofs.arguments.Given as goal
 
 abbrev pub invariant-loop-n : goal.invariant-loop-n
-invariant-loop-n g l = (l.n ≤ 9) × (length l.kinds ≡ length l.initial.kinds) × (length l.words ≡ length l.initial.words)
+invariant-loop-n g l = l.n ≤ 9
 
 abbrev pub decreases-loop-n : goal.decreases-loop-n
 decreases-loop-n g l = 9 - l.n

@@ -1,13 +1,9 @@
 use mathlib.Core.Path.{◌≡◌}
 use mathlib.Core.Bool.{true}
 use Prim.Native.Nat.{◌-◌, ◌≤◌}
-use native.Mathlib.Omega.{arith}
-use borrow.Author.Rules.{rules}
 use Rattle.state.specs.States.{state}
 use Rattle.fitness.specs.Fit.{cell_fits}
 use Rattle.choices.specs.Below.{all_below}
-use Rattle.choices.proofs.Below.{all_none, all_more, all-fails, all_end}
-use Rattle.choices.proofs.Choices.{denied, granted}
 use Rattle.fitness.proofs.all_cells_fit.Given as goal
 
 abbrev pub invariant-loop-c : goal.invariant-loop-c

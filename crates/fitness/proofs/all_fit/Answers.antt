@@ -1,11 +1,5 @@
 -- `fitness::all_fit` meets its contract: the registers below i fit. Assumes nothing.
-use mathlib.Core.Path.{◌≡◌}
-use mathlib.Core.Bool.{true}
-use Prim.Native.Nat.{◌-◌, ◌≤◌}
 use native.Mathlib.Omega.{arith}
-use borrow.Author.Rules.{rules}
-use Rattle.fitness.specs.Fit.{register_fits}
-use Rattle.choices.specs.Below.{all_below}
 use Rattle.choices.proofs.Below.{all_none, all_more, all-fails, all_end}
 use Rattle.choices.proofs.Choices.{denied, granted}
 use Rattle.std.proofs.lemmas.Bool.{not_from_false, not_from_true}

@@ -1,12 +1,8 @@
 use mathlib.Core.Path.{◌≡◌}
 use mathlib.Core.Bool.{true}
 use Prim.Native.Nat.{◌-◌, ◌≤◌}
-use native.Mathlib.Omega.{arith}
-use borrow.Author.Rules.{rules}
 use Rattle.fitness.specs.Fit.{there_in}
 use Rattle.choices.specs.Below.{all_below}
-use Rattle.choices.proofs.Below.{all_none, all_more, all-fails, all_end}
-use Rattle.choices.proofs.Choices.{denied, granted}
 use Rattle.fitness.proofs.all_there.Given as goal
 
 abbrev pub invariant-loop-i : goal.invariant-loop-i

@@ -1,11 +1,5 @@
 -- `fitness::all_wait` meets its contract: the activations below i wait. Assumes nothing.
-use mathlib.Core.Path.{◌≡◌}
-use mathlib.Core.Bool.{true}
-use Prim.Native.Nat.{◌-◌, ◌≤◌}
 use native.Mathlib.Omega.{arith}
-use borrow.Author.Rules.{rules}
-use Rattle.fitness.specs.Fit.{waits_in}
-use Rattle.choices.specs.Below.{all_below}
 use Rattle.choices.proofs.Below.{all_none, all_more, all-fails, all_end}
 use Rattle.choices.proofs.Choices.{denied, granted}
 use Rattle.std.proofs.lemmas.Bool.{not_from_false, not_from_true}

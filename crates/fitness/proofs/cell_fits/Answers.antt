@@ -1,6 +1,5 @@
 -- `fitness::cell_fits` meets its contract: a free cell, a closed one, one open beyond the live registers, and any other open one. Assumes nothing.
 use native.Mathlib.Omega.{arith}
-use borrow.Author.Rules.{rules}
 use Rattle.fitness.proofs.Parts.{cell_free, cell-number, cell-closed, cell-beyond, cell-open}
 use Rattle.fitness.proofs.cell_fits.Goals as goal
 

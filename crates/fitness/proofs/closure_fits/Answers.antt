@@ -1,5 +1,4 @@
 -- `fitness::closure_fits` meets its contract: the outermost activation, then one without a closure, with a free entry, and with an entry in use. Assumes nothing.
-use borrow.Author.Rules.{rules}
 use Rattle.fitness.proofs.Parts.{closure_outer, closure_missing, closure_free, closure_rest}
 use Rattle.fitness.proofs.closure_fits.Goals as goal
 

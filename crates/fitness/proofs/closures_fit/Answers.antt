@@ -1,5 +1,4 @@
 -- `fitness::closures_fit` meets its contract: entries, then cells, then activations; the windows end within 2,048, so their end is not clipped. Assumes nothing.
-use borrow.Author.Rules.{rules}
 use Rattle.fitness.proofs.Parts.{closures_entry, closures_cell, closures_rest}
 use Rattle.choices.proofs.Choices.{denied, granted}
 use Rattle.std.proofs.lemmas.Bool.{not_from_false, not_from_true}

@@ -1,5 +1,4 @@
 -- `fitness::decoded` meets its contract: an instruction that is there is decoded within its prototype's limits. Assumes nothing.
-use borrow.Author.Rules.{rules}
 use Rattle.fitness.proofs.Parts.{decoded-none, decoded-some}
 use Rattle.fitness.proofs.decoded.Goals as goal
 

@@ -1,5 +1,4 @@
 -- `fitness::end_fits` meets its contract: only a finished machine is tested, first for one activation, then for its Return. Assumes nothing.
-use borrow.Author.Rules.{rules}
 use Rattle.fitness.proofs.Parts.{end-open, end-deep, end-one}
 use Rattle.fitness.proofs.end_fits.Goals as goal
 

@@ -1,5 +1,4 @@
 -- `fitness::entry_fits` meets its contract: a free entry, one whose prototype is not there, and the upvalues of one that is. Assumes nothing.
-use borrow.Author.Rules.{rules}
 use Rattle.fitness.proofs.Parts.{entry_free, entry-away, entry-rest}
 use Rattle.fitness.proofs.entry_fits.Goals as goal
 

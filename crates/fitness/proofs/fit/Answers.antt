@@ -1,7 +1,6 @@
 -- `fitness::fit` meets its contract: each return is the definition's test that fails, or the last one. Assumes nothing.
 use mathlib.Core.Path.{sym, ap, ◌∙◌}
 use borrow.Author.Tests.{le-leb, lt-leb}
-use borrow.Author.Rules.{rules}
 use Rattle.fitness.specs.Fit.{mark_fits, operand_fits}
 use Rattle.fitness.proofs.Facts.{stack_inside, fit-five, fit-short, fit-six, fit-mark, fit-operand, fit_stack, fit-end, fit-values, fit-rest}
 use Rattle.choices.proofs.Choices.{denied, granted}

@@ -1,5 +1,4 @@
 -- `fitness::instruction_before` meets its contract: nothing stands before instruction 0. Assumes nothing.
-use borrow.Author.Rules.{rules}
 use Rattle.fitness.proofs.Parts.{before-none, before-some}
 use Rattle.fitness.proofs.instruction_before.Goals as goal
 

@@ -1,5 +1,4 @@
 -- `fitness::is_there` meets its contract: the code's two tests are the definition's. Assumes nothing.
-use borrow.Author.Rules.{rules}
 use Rattle.fitness.specs.Fit.{there_in}
 use Rattle.fitness.proofs.is_there.Goals as goal
 

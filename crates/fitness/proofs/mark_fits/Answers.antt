@@ -1,5 +1,4 @@
 -- `fitness::mark_fits` meets its contract: the code is the definition. Assumes nothing.
-use borrow.Author.Rules.{rules}
 use Rattle.fitness.specs.Fit.{mark_fits}
 use Rattle.fitness.proofs.mark_fits.Goals as goal
 

@@ -1,6 +1,5 @@
 -- `fitness::reads_back` meets its contract: the storage's test answers a number of bytes exactly where an image reads to the storage. Assumes nothing.
 use mathlib.Core.Path.{sym, ◌∙◌}
-use borrow.Author.Rules.{rules}
 use Rattle.storage.proofs.Six.{readable_back, six, answered-bytes, answered-six}
 use Rattle.fitness.proofs.reads_back.Goals as goal
 

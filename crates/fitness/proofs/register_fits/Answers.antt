@@ -1,6 +1,5 @@
 -- `fitness::register_fits` meets its contract: the register's kind and word are read and tested. Assumes nothing.
 use native.Mathlib.Nat.{zero-add}
-use borrow.Author.Rules.{rules}
 use Rattle.fitness.specs.Fit.{register_fits}
 use Rattle.fitness.proofs.register_fits.Goals as goal
 

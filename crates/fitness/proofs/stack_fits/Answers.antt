@@ -1,5 +1,4 @@
 -- `fitness::stack_fits` meets its contract: each return is the definition's test that fails, or the last one. Assumes nothing.
-use borrow.Author.Rules.{rules}
 use Rattle.fitness.proofs.Facts.{stack_none, stack_deep, stack_far, stack_away, stack_rest}
 use Rattle.choices.proofs.Choices.{denied, granted}
 use Rattle.std.proofs.lemmas.Bool.{not_from_false, not_from_true}

@@ -1,5 +1,4 @@
 -- `fitness::upvalue_fits` meets its contract: behind the descriptors no cell, for each of them one in use. Assumes nothing.
-use borrow.Author.Rules.{rules}
 use Rattle.fitness.proofs.Parts.{upvalue-spare, upvalue-missing, upvalue-cell}
 use Rattle.fitness.proofs.upvalue_fits.Goals as goal
 

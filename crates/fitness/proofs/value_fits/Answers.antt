@@ -1,5 +1,4 @@
 -- `fitness::value_fits` meets its contract: no value, a function, a string, and any other value. Assumes nothing.
-use borrow.Author.Rules.{rules}
 use Rattle.fitness.proofs.Parts.{value_none, value-function, value_string, value-other}
 use Rattle.choices.proofs.Choices.{denied, granted}
 use Rattle.std.proofs.lemmas.Bool.{not_from_false, not_from_true}

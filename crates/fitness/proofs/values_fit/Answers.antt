@@ -1,5 +1,4 @@
 -- `fitness::values_fit` meets its contract: the windows end within 2,048, so their end is not clipped. Assumes nothing.
-use borrow.Author.Rules.{rules}
 use Rattle.fitness.proofs.Parts.{values-are}
 use Rattle.fitness.proofs.values_fit.Goals as goal
 

@@ -1,5 +1,4 @@
 -- `fitness::waits` meets its contract: the instruction before is asked whether it is a Call. Assumes nothing.
-use borrow.Author.Rules.{rules}
 use Rattle.fitness.specs.Fit.{waits_in}
 use Rattle.fitness.proofs.waits.Goals as goal
 

@@ -1,5 +1,4 @@
 -- `image::code_step` meets its contract: each return decides the tests of `code_step` as the code did. Assumes nothing.
-use borrow.Author.Rules.{rules}
 use borrow.Author.Tests.{le-leb, lt-leb, lt-ltb, le-ltb}
 use Rattle.image.specs.Judge.{code_step}
 use Rattle.image.proofs.code_step.Goals as goal

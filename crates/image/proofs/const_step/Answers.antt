@@ -1,5 +1,4 @@
 -- `image::const_step` meets its contract: each return decides the tests of `const_step` as the code did. Assumes nothing.
-use borrow.Author.Rules.{rules}
 use borrow.Author.Tests.{le-leb, lt-leb, lt-ltb, le-ltb, eq-eqb, ne_eqb}
 use Rattle.image.specs.Judge.{const_step}
 use Rattle.image.proofs.const_step.Goals as goal

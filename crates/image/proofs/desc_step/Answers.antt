@@ -1,5 +1,4 @@
 -- `image::desc_step` meets its contract: each return decides the tests of `desc_step` as the code did. Assumes nothing.
-use borrow.Author.Rules.{rules}
 use borrow.Author.Tests.{le-leb, lt-leb, lt-ltb, le-ltb, eq-eqb, ne_eqb}
 use Rattle.image.specs.Judge.{desc_step}
 use Rattle.image.proofs.desc_step.Goals as goal

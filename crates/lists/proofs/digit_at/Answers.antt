@@ -1,5 +1,4 @@
 -- `lists::digit_at` meets its contract: the byte's digit is its definition's formula. Assumes nothing.
-use borrow.Author.Rules.{rules}
 use mathlib.Core.Path.{ap}
 use Rattle.lists.specs.Lines.{digit_value}
 use Rattle.lists.proofs.digit_at.Goals as goal

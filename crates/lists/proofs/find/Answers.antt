@@ -1,10 +1,6 @@
 -- `lists::find` meets its contract: what is found from i on is what is found, and the cursor stays before the end. Assumes nothing.
-use borrow.Author.Rules.{rules}
 use native.Mathlib.Omega.{arith}
-use mathlib.Core.Path.{◌≡◌, refl}
-use Prim.Native.Nat.{◌+◌, ◌-◌, ◌≤◌}
-use lib.ListN.{length, drop}
-use Rattle.lists.specs.Lines.{before}
+use mathlib.Core.Path.{refl}
 use Rattle.lists.proofs.Loops.{found, onward, ended}
 use Rattle.lists.proofs.find.Goals as goal
 

@@ -1,10 +1,7 @@
-use borrow.Author.Rules.{rules}
-use native.Mathlib.Omega.{arith}
-use mathlib.Core.Path.{◌≡◌, refl}
+use mathlib.Core.Path.{◌≡◌}
 use Prim.Native.Nat.{◌+◌, ◌-◌, ◌≤◌}
 use lib.ListN.{length, drop}
 use Rattle.lists.specs.Lines.{before}
-use Rattle.lists.proofs.Loops.{found, onward, ended}
 use Rattle.lists.proofs.find.Given as goal
 
 abbrev pub invariant-loop-i : goal.invariant-loop-i

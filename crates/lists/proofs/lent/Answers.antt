@@ -1,5 +1,4 @@
 -- `lists::lent` meets its contract: where there are fewer cells than are withheld, none is lent. Assumes nothing.
-use borrow.Author.Rules.{rules}
 use native.Mathlib.Omega.{arith}
 use mathlib.Core.Path.{◌≡◌}
 use mathlib.Core.List.{List}

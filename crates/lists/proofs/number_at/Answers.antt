@@ -1,10 +1,6 @@
 -- `lists::number_at` meets its contract: after i turns the number is what i digits say; past the line's end, where it is 0, it
 -- stays so. Assumes nothing.
-use borrow.Author.Rules.{rules}
 use native.Mathlib.Omega.{arith}
-use mathlib.Core.Path.{◌≡◌}
-use Prim.Native.Nat.{◌-◌, ◌≤◌}
-use Rattle.lists.specs.Lines.{number_at}
 use Rattle.lists.proofs.Loops.{none, more, over, whole}
 use Rattle.lists.proofs.number_at.Goals as goal
 

@@ -1,5 +1,4 @@
 -- `machine::check_answer` meets its contract: case by case of the checker's answer, and a start's. Assumes nothing.
-use borrow.Author.Rules.{rules}
 use Rattle.machine.proofs.check_answer.Goals as goal
 
 pub returns-in-Accepted : goal.returns-in-Accepted

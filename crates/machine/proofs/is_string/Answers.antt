@@ -1,6 +1,5 @@
 -- `machine::is_string` meets its contract: the two tests are the definition's. Assumes nothing.
 use Rattle.machine.proofs.Spans.{string_told}
-use borrow.Author.Rules.{rules}
 use Rattle.machine.proofs.is_string.Goals as goal
 
 pub returns : goal.returns

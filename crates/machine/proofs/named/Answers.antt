@@ -1,6 +1,5 @@
 -- `machine::named` meets its contract: a Return, and any other class. Assumes nothing.
 use Rattle.machine.proofs.Returns.{none_named, return_named}
-use borrow.Author.Rules.{rules}
 use Rattle.machine.proofs.named.Goals as goal
 
 pub returns-in_default : goal.returns-in_default

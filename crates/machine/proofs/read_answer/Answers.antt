@@ -1,5 +1,4 @@
 -- `machine::read_answer` meets its contract: case by case of the reader's answer. Assumes nothing.
-use borrow.Author.Rules.{rules}
 use Rattle.machine.proofs.read_answer.Goals as goal
 
 pub returns-in-Accepted : goal.returns-in-Accepted

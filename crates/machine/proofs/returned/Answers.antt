@@ -1,6 +1,5 @@
 -- `machine::returned` meets its contract: what a finished machine's Return names, and what any other stands at. Assumes nothing.
 use Rattle.machine.proofs.Returns.{not-finished, finished}
-use borrow.Author.Rules.{rules}
 use Rattle.machine.proofs.returned.Goals as goal
 
 pub returns-then-o-ne0 : goal.returns-then-o-ne0

@@ -1,6 +1,5 @@
 -- `machine::text_span` meets its contract: 5, 6, 20, or the place that the constant's word names. Assumes nothing.
 use Rattle.machine.proofs.Spans.{span-five, span-six, span_none, span-at}
-use borrow.Author.Rules.{rules}
 use Rattle.std.proofs.lemmas.Bool.{not_from_false, not_from_true}
 use Rattle.machine.proofs.text_span.Goals as goal
 

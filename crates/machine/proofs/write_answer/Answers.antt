@@ -1,5 +1,4 @@
 -- `machine::write_answer` meets its contract: case by case of the writer's answer. Assumes nothing.
-use borrow.Author.Rules.{rules}
 use Rattle.machine.proofs.write_answer.Goals as goal
 
 pub returns-in-Bytes : goal.returns-in-Bytes

@@ -1,10 +1,6 @@
 -- `slices::fill_words` meets its contract: what is left after i turns, done from there, is the whole; past the end nothing is left. Assumes nothing.
-use Prim.Native.Nat.{◌≤◌, ◌-◌, ◌+◌}
-use mathlib.Core.Path.{◌≡◌, refl, sym, ◌∙◌}
+use mathlib.Core.Path.{refl, sym, ◌∙◌}
 use native.Mathlib.Omega.{arith}
-use lib.ListN.{length}
-use borrow.Author.Rules.{rules}
-use Rattle.slices.specs.Ranges.{fill_of}
 use Rattle.slices.proofs.Loops.{stores-start, stores-more, stores-end, stores-most}
 use Rattle.slices.proofs.fill_words.Goals as goal
 

@@ -1,7 +1,6 @@
 -- `slices::put_byte` meets its contract: past the end `set` changes nothing. Assumes nothing.
 use Prim.Native.Nat.{◌+◌}
 use native.Mathlib.Omega.{arith}
-use borrow.Author.Rules.{rules}
 use Rattle.slices.proofs.Loops.{past-set}
 use Rattle.slices.proofs.put_byte.Goals as goal
 

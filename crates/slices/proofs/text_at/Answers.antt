@@ -6,7 +6,6 @@ use native.Mathlib.Nat.{le_trans, le_of_eq}
 use native.Mathlib.Omega.{arith}
 use lib.ListN.{length, take, drop, length-drop, drop_of_length-le}
 use lib.Seq.{take_all, take-nil}
-use borrow.Author.Rules.{rules}
 use Rattle.slices.proofs.text_at.Goals as goal
 
 -- a part that starts past the end is empty; one that would pass the end stops there

@@ -1,7 +1,6 @@
 -- `slices::word_at` meets its contract: past the end `get_or` is 0. Assumes nothing.
 use Prim.Native.Nat.{◌+◌}
 use native.Mathlib.Omega.{arith}
-use borrow.Author.Rules.{rules}
 use Rattle.slices.proofs.Loops.{past}
 use Rattle.slices.proofs.word_at.Goals as goal
 

@@ -1,5 +1,4 @@
 -- `storage::constant_kind` meets its contract: the read is at the first constant's place and c. Assumes nothing.
-use borrow.Author.Rules.{rules}
 use Rattle.storage.proofs.constant_kind.Goals as goal
 
 pub returns : goal.returns

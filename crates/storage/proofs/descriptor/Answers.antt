@@ -1,7 +1,6 @@
 -- `storage::descriptor` meets its contract: where the table ends before cell q or cell i, it ends before q's descriptor i too. Assumes nothing.
 use Prim.Native.Nat.{◌+◌}
 use native.Mathlib.Omega.{arith}
-use borrow.Author.Rules.{rules}
 use Rattle.slices.proofs.Loops.{past}
 use Rattle.storage.specs.Fields.{descriptors_place}
 use Rattle.storage.proofs.descriptor.Goals as goal

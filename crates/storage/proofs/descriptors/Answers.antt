@@ -1,6 +1,5 @@
 -- `storage::descriptors` meets its contract: where the table ends before cell q, it ends before q's descriptors too. Assumes nothing.
 use native.Mathlib.Omega.{arith}
-use borrow.Author.Rules.{rules}
 use Rattle.slices.proofs.Loops.{past}
 use Rattle.storage.specs.Fields.{descriptors_place}
 use Rattle.storage.proofs.descriptors.Goals as goal

@@ -1,5 +1,4 @@
 -- `storage::descriptors_here` meets its contract: where no prototype is open there are none. Assumes nothing.
-use borrow.Author.Rules.{rules}
 use borrow.Author.Tests.{le-leb, lt-leb}
 use Rattle.storage.proofs.descriptors_here.Goals as goal
 

@@ -1,7 +1,6 @@
 -- `storage::field_at` meets its contract: where the table ends before cell q, it ends before q's entry too. Assumes nothing.
 use Prim.Native.Nat.{◌+◌}
 use native.Mathlib.Omega.{arith}
-use borrow.Author.Rules.{rules}
 use Rattle.slices.proofs.Loops.{past}
 use Rattle.storage.specs.Fields.{entry_place}
 use Rattle.storage.proofs.field_at.Goals as goal

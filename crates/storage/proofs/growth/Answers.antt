@@ -4,7 +4,6 @@ use mathlib.Core.Path.{◌≡◌}
 use mathlib.Core.List.{List}
 use native.Mathlib.Omega.{arith}
 use lib.ListN.{length, get_or}
-use borrow.Author.Rules.{rules}
 use Rattle.slices.proofs.Loops.{past}
 use Rattle.storage.specs.Fields.{entry_place}
 use Rattle.storage.proofs.growth.Goals as goal

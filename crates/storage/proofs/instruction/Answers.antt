@@ -1,5 +1,4 @@
 -- `storage::instruction` meets its contract: the read is at the first instruction's place and i. Assumes nothing.
-use borrow.Author.Rules.{rules}
 use Rattle.storage.proofs.instruction.Goals as goal
 
 pub returns : goal.returns

@@ -1,5 +1,4 @@
 -- `storage::next_code` meets its contract: each return decides the tests of `next_code` as the code did. Assumes nothing.
-use borrow.Author.Rules.{rules}
 use borrow.Author.Tests.{lt-ltb, le-ltb}
 use Rattle.storage.specs.Cursor.{next_code}
 use Rattle.storage.proofs.next_code.Goals as goal

@@ -1,5 +1,4 @@
 -- `storage::next_const` meets its contract: each return decides the tests of `next_const` as the code did. Assumes nothing.
-use borrow.Author.Rules.{rules}
 use borrow.Author.Tests.{le-leb, lt-leb, lt-ltb, le-ltb, eq-eqb, ne_eqb}
 use Rattle.storage.specs.Cursor.{next_const}
 use Rattle.storage.proofs.next_const.Goals as goal

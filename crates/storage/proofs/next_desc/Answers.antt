@@ -1,5 +1,4 @@
 -- `storage::next_desc` meets its contract: each return decides the test of `next_desc` as the code did. Assumes nothing.
-use borrow.Author.Rules.{rules}
 use borrow.Author.Tests.{lt-ltb, le-ltb}
 use Rattle.storage.specs.Cursor.{next_desc}
 use Rattle.storage.proofs.next_desc.Goals as goal

@@ -1,5 +1,4 @@
 -- `storage::next_entry` meets its contract: each return decides the tests of `next_entry` as the code did. Assumes nothing.
-use borrow.Author.Rules.{rules}
 use borrow.Author.Tests.{le-leb, lt-leb, eq-eqb, ne_eqb}
 use Rattle.storage.specs.Cursor.{next_entry}
 use Rattle.storage.proofs.next_entry.Goals as goal

@@ -4,7 +4,6 @@ use mathlib.Core.Bool.{true, false, cond}
 use Prim.Native.Nat.{ℕ, ◌≤◌, ◌<◌}
 use native.Mathlib.Omega.{arith}
 use lib.Dec.{leb, ltb}
-use borrow.Author.Rules.{rules}
 use borrow.Author.Tests.{le-leb, lt-leb, leb-true, lt-ltb, le-ltb, eq-eqb, ne_eqb}
 use Rattle.choices.proofs.Choices.{cond_cases}
 use Rattle.storage.specs.Cursor.{next_desc, next_frame, current, descriptors_here}

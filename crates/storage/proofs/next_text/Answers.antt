@@ -1,5 +1,4 @@
 -- `storage::next_text` meets its contract: each return decides the tests of `next_text` as the code did. Assumes nothing.
-use borrow.Author.Rules.{rules}
 use borrow.Author.Tests.{le-leb, lt-leb}
 use Rattle.storage.specs.Cursor.{next_text}
 use Rattle.storage.proofs.next_text.Goals as goal

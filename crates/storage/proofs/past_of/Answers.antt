@@ -1,7 +1,6 @@
 -- `storage::past_of` meets its contract, an arm of the match for each clause of `past`. Assumes nothing.
 use mathlib.Core.Path.{refl}
 use native.Mathlib.Omega.{arith}
-use borrow.Author.Rules.{rules}
 use Rattle.storage.specs.Cursor.{past}
 use Rattle.storage.proofs.Sizes.{str-small}
 use Rattle.storage.proofs.past_of.Goals as goal

@@ -1,7 +1,6 @@
 -- `storage::size_of` meets its contract, an arm of the match for each clause of `size_of`. Assumes nothing.
 use mathlib.Core.Path.{refl}
 use native.Mathlib.Omega.{arith}
-use borrow.Author.Rules.{rules}
 use Rattle.storage.specs.Cursor.{size_of}
 use Rattle.storage.proofs.Sizes.{payload-small, str-small}
 use Rattle.storage.proofs.size_of.Goals as goal

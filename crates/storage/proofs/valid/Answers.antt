@@ -1,15 +1,13 @@
 -- `storage::valid` meets its contract. The loop's invariant: what is left of an image from the cursor on, and the whole of it, go
 -- together. So where the loop ends at e0 there is an image of that many bytes, and where it ends otherwise there is none. The measure
 -- is what is left of 65,536 bytes. Assumes nothing.
-use Prim.Native.Nat.{◌-◌}
 use native.Mathlib.Omega.{arith}
 use mathlib.Core.Path.{◌≡◌, sym, ◌∙◌}
-use borrow.Author.Rules.{rules}
 use Rattle.image.specs.Judge.{frame_step}
 use Rattle.image.specs.declared.Step.TheVariants.{On, Done}
 use Rattle.storage.specs.Layout.{Storage, storage}
 use Rattle.storage.proofs.Sizes.{size-pos}
-use Rattle.storage.proofs.Walk.{Walk, Turn, walk_start, walk-over, on_small, done_small, walk_on, walk_no, walk_end, walk_only}
+use Rattle.storage.proofs.Walk.{Turn, walk_start, walk-over, on_small, done_small, walk_on, walk_no, walk_end, walk_only}
 use Rattle.storage.proofs.Answer.{bytes, none}
 use Rattle.storage.proofs.valid.Goals as goal
 use Rattle.storage.proofs.valid.Goals.{After-step_on-u, In-Done, In-On}

@@ -1,6 +1,6 @@
 -- `worked::example` meets its contract: what each operator and each run ensures is an entry of `defined`, and `worked` says what that is. Assumes nothing.
 use mathlib.Core.Path.{◌≡◌, sym, ap, ◌∙◌}
-use Prim.Native.Nat.{ℕ, ◌+◌, ◌≤◌}
+use Prim.Native.Nat.{ℕ, ◌≤◌}
 use native.Mathlib.Omega.{arith}
 use lib.Ieee.{of_bits}
 use lib.ListN.{get_or, get_or-eq_default}
@@ -9,7 +9,6 @@ use Rattle.worked.specs.Worked.{defined, answers, worked}
 use Rattle.worked.specs.declared.Ran.{Ran}
 use Rattle.worked.specs.declared.Told.{Told}
 use Rattle.worked.specs.declared.Told.TheVariants.{Operator, Number, Equal, Integer, Run, Register, Nothing}
-use borrow.Author.Rules.{rules}
 use Rattle.worked.proofs.example.Goals as goal
 
 at : (n : ℕ) → get_or defined n Nothing ≡ get_or answers n Nothing

@@ -16,7 +16,6 @@ use Rattle.step.specs.Run.{ended, run_of}
 use Rattle.step.specs.declared.Outcome.{Outcome}
 use Rattle.worked.specs.Thirteen.{thirteen_text, thirteen_stored, begins, ends_on, ran_on, register, told_of}
 use Rattle.worked.specs.Thirteen as thirteen
-use borrow.Author.Rules.{rules}
 use Rattle.worked.proofs.run_thirteen.Goals as goal
 
 -- what the reader leaves, by its two fields

@@ -1,7 +1,6 @@
 -- `checker::next::ahead` meets its contract: the place is inside, or it is not. Assumes nothing.
 use native.Mathlib.Omega.{arith}
 use Rattle.checker.proofs.Places.{outside, within}
-use borrow.Author.Rules.{rules}
 use Rattle.checker.proofs.next.ahead.Goals as goal
 
 pub returns-then-n-p : goal.returns-then-n-p

@@ -1,5 +1,4 @@
 -- `checker::next::next_inside` meets its contract. Assumes nothing.
-use borrow.Author.Rules.{rules}
 use Rattle.checker.proofs.Places.{one}
 use Rattle.checker.proofs.next.next_inside.Goals as goal
 

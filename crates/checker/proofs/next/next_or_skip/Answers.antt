@@ -1,5 +1,4 @@
 -- `checker::next::next_or_skip` meets its contract: the test decides. Assumes nothing.
-use borrow.Author.Rules.{rules}
 use Rattle.checker.proofs.next.next_or_skip.Goals as goal
 
 pub returns-then-goes_on : goal.returns-then-goes_on

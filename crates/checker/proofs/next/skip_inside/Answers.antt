@@ -1,5 +1,4 @@
 -- `checker::next::skip_inside` meets its contract. Assumes nothing.
-use borrow.Author.Rules.{rules}
 use Rattle.checker.proofs.Places.{two}
 use Rattle.checker.proofs.next.skip_inside.Goals as goal
 

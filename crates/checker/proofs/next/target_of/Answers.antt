@@ -1,6 +1,5 @@
 -- `checker::next::target_of` meets its contract: an offset below 32,768 leads forward, any other back, and where that is too far the place is below 0.
 -- Assumes nothing.
-use borrow.Author.Rules.{rules}
 use Rattle.checker.proofs.Places.{forward, backward, before-all}
 use Rattle.checker.proofs.next.target_of.Goals as goal
 

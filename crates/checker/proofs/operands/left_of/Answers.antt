@@ -1,5 +1,4 @@
 -- `checker::operands::left_of` meets its contract: the byte and its flag are those of the definition. Assumes nothing.
-use borrow.Author.Rules.{rules}
 use Rattle.checker.specs.Operations.{left_is_constant}
 use Rattle.checker.specs.Decode.{left_operand}
 use Rattle.checker.proofs.Shapes.{bytes}

@@ -1,5 +1,4 @@
 -- `checker::operands::right_of` meets its contract: the byte and its flag are those of the definition. Assumes nothing.
-use borrow.Author.Rules.{rules}
 use Rattle.checker.specs.Operations.{right_is_constant}
 use Rattle.checker.specs.Decode.{right_operand}
 use Rattle.checker.proofs.Shapes.{bytes}

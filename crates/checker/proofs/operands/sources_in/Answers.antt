@@ -1,7 +1,6 @@
 -- `checker::operands::sources_in` meets its contract: a test joined with its flag is the choice. Assumes nothing.
 use mathlib.Core.Path.{◌≡◌}
 use mathlib.Core.Bool.{Bool, true, ◌&&◌, ◌||◌, cond}
-use borrow.Author.Rules.{rules}
 use lib.Dec.{eqb, ltb}
 use Rattle.checker.specs.Operations.{left_is_constant, right_is_constant}
 use Rattle.checker.specs.Rules.{sources_in}

@@ -1,6 +1,5 @@
 -- `checker::rules::decode_combines` meets its contract: each test is its rule at this shape. Assumes nothing.
 use mathlib.Core.Path.{refl}
-use borrow.Author.Rules.{rules}
 use Rattle.checker.specs.Operations.{combines, next_of}
 use Rattle.checker.specs.Rules.{carried, tidy, registers_in, constants_in, targets_in, prototype_in_image, upvalues_in}
 use Rattle.checker.proofs.Shapes.{bytes, shaped}

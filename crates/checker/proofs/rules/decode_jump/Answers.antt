@@ -1,6 +1,5 @@
 -- `checker::rules::decode_jump` meets its contract: each test is its rule at this shape. Assumes nothing.
 use mathlib.Core.Path.{refl}
-use borrow.Author.Rules.{rules}
 use lib.Dec.{eqb, ltb}
 use Rattle.image.specs.Instruction.{a_of}
 use Rattle.choices.proofs.Choices.{or-cond}

@@ -4,7 +4,6 @@ use Prim.Native.Nat.{◌+◌}
 use mathlib.Core.Bool.{Bool}
 use lib.Dec.{eqb}
 use Rattle.image.specs.Instruction.{a_of, b_of, c_of}
-use borrow.Author.Rules.{rules}
 use Rattle.checker.specs.Operations.{loads_bool, next_of}
 use Rattle.checker.specs.Rules.{carried, tidy, registers_in, constants_in, targets_in, prototype_in_image, upvalues_in}
 use Rattle.checker.specs.declared.Site.{Site}

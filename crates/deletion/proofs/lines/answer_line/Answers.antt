@@ -1,6 +1,5 @@
 -- `deletion::lines::answer_line` meets its contract: the ten bytes are the answer's. Assumes nothing.
 use Rattle.deletion.proofs.Said.{lined_as, answer-said}
-use borrow.Author.Rules.{rules}
 use Rattle.deletion.proofs.lines.answer_line.Goals as goal
 
 pub returns : goal.returns

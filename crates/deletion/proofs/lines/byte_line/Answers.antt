@@ -1,6 +1,5 @@
 -- `deletion::lines::byte_line` meets its contract: the third byte is the word's lowest. Assumes nothing.
 use Rattle.deletion.proofs.Said.{lined_as, byte-said}
-use borrow.Author.Rules.{rules}
 use Rattle.deletion.proofs.lines.byte_line.Goals as goal
 
 pub returns : goal.returns

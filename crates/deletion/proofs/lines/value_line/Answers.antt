@@ -1,6 +1,5 @@
 -- `deletion::lines::value_line` meets its contract: case by case of the kind. Assumes nothing.
 use Rattle.deletion.proofs.Said.{lined_as, string_said, function-said, nil-said, boolean_said, other-said}
-use borrow.Author.Rules.{rules}
 use Rattle.deletion.proofs.lines.value_line.Goals as goal
 
 pub returns-then-kind-eq4 : goal.returns-then-kind-eq4

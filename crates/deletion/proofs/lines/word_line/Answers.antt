@@ -1,6 +1,5 @@
 -- `deletion::lines::word_line` meets its contract: the eight bytes are the word's, the highest first. Assumes nothing.
 use Rattle.deletion.proofs.Said.{lined_as, word-said}
-use borrow.Author.Rules.{rules}
 use Rattle.deletion.proofs.lines.word_line.Goals as goal
 
 pub returns : goal.returns

@@ -5,7 +5,6 @@ use lib.ListN.{length}
 use Rattle.deletion.specs.Output.{output_size}
 use Rattle.deletion.proofs.Puts.{put_as}
 use Rattle.deletion.proofs.Outputs.{answer-put, read-refused, read-stored, whole}
-use borrow.Author.Rules.{rules}
 use Rattle.deletion.proofs.output.output_given.Goals as goal
 
 pub returns-in-Refused : goal.returns-in-Refused

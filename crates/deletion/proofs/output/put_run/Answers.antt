@@ -1,6 +1,5 @@
 -- `deletion::output::put_run` meets its contract: the answer's line, and behind it the values. Assumes nothing.
 use Rattle.deletion.proofs.Outputs.{answer-put, values-room, run-put}
-use borrow.Author.Rules.{rules}
 use Rattle.deletion.proofs.output.put_run.Goals as goal
 
 pub put_values-requires : goal.put_values-requires

@@ -1,7 +1,6 @@
 -- `deletion::output::put_stored` meets its contract: a refused start's line, or what the run on the budget makes. Assumes nothing.
 use Rattle.deletion.proofs.Puts.{put_as}
 use Rattle.deletion.proofs.Outputs.{answer-put, start-refused, start-run}
-use borrow.Author.Rules.{rules}
 use Rattle.deletion.proofs.output.put_stored.Goals as goal
 
 pub returns-in-Refused : goal.returns-in-Refused

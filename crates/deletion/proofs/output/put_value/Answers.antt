@@ -1,6 +1,5 @@
 -- `deletion::output::put_value` meets its contract: the line of the register's kind and word, at the front of the part from `at` on. Assumes nothing.
 use Prim.Native.Nat.{ℕ, ◌+◌}
-use native.Mathlib.Omega.{arith}
 use mathlib.Core.Path.{◌≡◌}
 use mathlib.Core.List.{List}
 use Rattle.writer.specs.Writing.{line_of}
@@ -8,7 +7,6 @@ use Rattle.writer.specs.Putting.{Room}
 use Rattle.deletion.specs.Lines.{value_bytes}
 use Rattle.deletion.specs.Output.{value_line}
 use Rattle.deletion.proofs.Puts.{part-put, value-told, put_as}
-use borrow.Author.Rules.{rules}
 use Rattle.deletion.proofs.output.put_value.Goals as goal
 use Rattle.deletion.proofs.output.put_value.Goals.{After-value_line-n}
 

@@ -1,10 +1,7 @@
 -- `deletion::output::put_values` meets its contract. The loop's invariant: the values that are left, put from here, give the whole. The measure is how many are
 -- left. Assumes nothing.
-use Prim.Native.Nat.{◌-◌}
-use native.Mathlib.Omega.{arith}
-use Rattle.writer.proofs.Puts.{Left, left-start, left-room, left-more, left-done}
-use Rattle.deletion.specs.Output.{value_lines}
-use Rattle.deletion.proofs.Puts.{rest, values-start, values-turn, values-done}
+use Rattle.writer.proofs.Puts.{left-room, left-more, left-done}
+use Rattle.deletion.proofs.Puts.{values-turn, values-done}
 use Rattle.deletion.proofs.output.put_values.Goals as goal
 
 pub put_value-to-requires : goal.put_value-to-requires

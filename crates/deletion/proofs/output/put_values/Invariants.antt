@@ -1,8 +1,7 @@
 use Prim.Native.Nat.{◌-◌}
-use native.Mathlib.Omega.{arith}
-use Rattle.writer.proofs.Puts.{Left, left-start, left-room, left-more, left-done}
+use Rattle.writer.proofs.Puts.{Left}
 use Rattle.deletion.specs.Output.{value_lines}
-use Rattle.deletion.proofs.Puts.{rest, values-start, values-turn, values-done}
+use Rattle.deletion.proofs.Puts.{rest}
 use Rattle.deletion.proofs.output.put_values.Given as goal
 
 abbrev pub invariant-loop-i : goal.invariant-loop-i

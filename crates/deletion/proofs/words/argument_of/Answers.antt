@@ -1,7 +1,6 @@
 -- `deletion::words::argument_of` meets its contract: the first name that a word says, or else what it reads as. Assumes nothing.
 use mathlib.Core.Path.{sym, ◌∙◌}
 use Rattle.deletion.proofs.Spoken.{nil-said, true_said, false_said, none_said}
-use borrow.Author.Rules.{rules}
 use Rattle.deletion.proofs.words.argument_of.Goals as goal
 
 pub returns-then-is_word : goal.returns-then-is_word

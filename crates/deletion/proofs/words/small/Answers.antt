@@ -1,7 +1,6 @@
 -- `deletion::words::small` meets its contract: the test decides. Assumes nothing.
 use borrow.Author.Tests.{lt-ltb, le-ltb}
 use Rattle.deletion.specs.Words.{small_of}
-use borrow.Author.Rules.{rules}
 use Rattle.deletion.proofs.words.small.Goals as goal
 
 pub returns-then-w-lt4294967296 : goal.returns-then-w-lt4294967296

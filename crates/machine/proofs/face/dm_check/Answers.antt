@@ -1,6 +1,5 @@
 -- `machine::face::dm_check` meets its contract: an `answer` that is too short, and what the checker answers. Assumes nothing.
 use Rattle.machine.proofs.Faces.{check-short, check-told}
-use borrow.Author.Rules.{rules}
 use Rattle.machine.proofs.face.dm_check.Goals as goal
 
 pub returns-then-answer-lt-ANSWER : goal.returns-then-answer-lt-ANSWER

@@ -1,6 +1,5 @@
 -- `machine::face::dm_read` meets its contract: an `answer` that is too short, and what the reader answers. Assumes nothing.
 use Rattle.machine.proofs.Faces.{read_short, read_told}
-use borrow.Author.Rules.{rules}
 use Rattle.machine.proofs.face.dm_read.Goals as goal
 
 pub returns-then-answer-lt-ANSWER : goal.returns-then-answer-lt-ANSWER

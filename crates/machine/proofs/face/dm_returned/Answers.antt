@@ -1,6 +1,5 @@
 -- `machine::face::dm_returned` meets its contract: an `answer` that is too short, and where the values are. Assumes nothing.
 use Rattle.machine.proofs.Faces.{returned-short, returned-told}
-use borrow.Author.Rules.{rules}
 use Rattle.machine.proofs.face.dm_returned.Goals as goal
 
 pub returns-then-answer-lt-ANSWER : goal.returns-then-answer-lt-ANSWER

@@ -1,6 +1,5 @@
 -- `machine::face::dm_run` meets its contract: an `answer` that is too short, and what a run answers. Assumes nothing.
 use Rattle.machine.proofs.Faces.{run_short, run-told}
-use borrow.Author.Rules.{rules}
 use Rattle.machine.proofs.face.dm_run.Goals as goal
 
 pub returns-then-answer-lt-ANSWER : goal.returns-then-answer-lt-ANSWER

@@ -1,6 +1,5 @@
 -- `machine::face::dm_start` meets its contract: an `answer` that is too short, and what a start answers. Assumes nothing.
 use Rattle.machine.proofs.Faces.{start-short, start-told}
-use borrow.Author.Rules.{rules}
 use Rattle.machine.proofs.face.dm_start.Goals as goal
 
 pub returns-then-answer-lt-ANSWER : goal.returns-then-answer-lt-ANSWER

@@ -1,6 +1,5 @@
 -- `machine::face::dm_text` meets its contract: an `answer` that is too short, and where the string is. Assumes nothing.
 use Rattle.machine.proofs.Faces.{text-short, text-told}
-use borrow.Author.Rules.{rules}
 use Rattle.machine.proofs.face.dm_text.Goals as goal
 
 pub returns-then-answer-lt-ANSWER : goal.returns-then-answer-lt-ANSWER

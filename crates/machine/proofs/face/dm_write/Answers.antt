@@ -1,6 +1,5 @@
 -- `machine::face::dm_write` meets its contract: an `answer` that is too short, and what the writer answers. Assumes nothing.
 use Rattle.machine.proofs.Faces.{write-short, write-told}
-use borrow.Author.Rules.{rules}
 use Rattle.machine.proofs.face.dm_write.Goals as goal
 
 pub returns-then-answer-lt-ANSWER : goal.returns-then-answer-lt-ANSWER

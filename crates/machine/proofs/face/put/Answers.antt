@@ -1,6 +1,5 @@
 -- `machine::face::put` meets its contract: past the end `set` changes nothing. Assumes nothing.
 use Rattle.slices.proofs.Loops.{past-set}
-use borrow.Author.Rules.{rules}
 use Rattle.machine.proofs.face.put.Goals as goal
 
 pub returns-else-at-answer : goal.returns-else-at-answer

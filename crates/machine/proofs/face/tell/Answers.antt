@@ -1,6 +1,5 @@
 -- `machine::face::tell` meets its contract: five stores, one after the other. Assumes nothing.
 use Rattle.machine.proofs.Faces.{told-outcome}
-use borrow.Author.Rules.{rules}
 use Rattle.machine.proofs.face.tell.Goals as goal
 
 pub returns : goal.returns

@@ -1,6 +1,5 @@
 -- `machine::face::tell5` meets its contract: four stores and one more. Assumes nothing.
 use Rattle.machine.proofs.Faces.{told-five}
-use borrow.Author.Rules.{rules}
 use Rattle.machine.proofs.face.tell5.Goals as goal
 
 pub returns : goal.returns

@@ -1,6 +1,5 @@
 -- `machine::face::tell6` meets its contract: five stores and one more. Assumes nothing.
 use Rattle.machine.proofs.Faces.{told-six}
-use borrow.Author.Rules.{rules}
 use Rattle.machine.proofs.face.tell6.Goals as goal
 
 pub returns : goal.returns

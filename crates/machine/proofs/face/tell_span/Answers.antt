@@ -1,5 +1,4 @@
 -- `machine::face::tell_span` meets its contract: case by case. Assumes nothing.
-use borrow.Author.Rules.{rules}
 use Rattle.machine.proofs.Faces.{span-told, refusal-told}
 use Rattle.machine.proofs.face.tell_span.Goals as goal
 
