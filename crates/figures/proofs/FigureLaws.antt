@@ -190,27 +190,27 @@ module _ (s : Bool) (l : List ℕ) (t : Tally) (U : t ≡ tally empty_tally (dig
   decimal-after : drop t.count l ≡ after_digits 10 l
   decimal-after = behind-digits 10 l t.count (run-count t (digits 10 l) U)
 
-  decimal-digits : is_empty (digits 10 l) ≡ eqb t.count 0
-  decimal-digits = no-digits 10 l t.count (run-count t (digits 10 l) U)
+  decimal_digits : is_empty (digits 10 l) ≡ eqb t.count 0
+  decimal_digits = no-digits 10 l t.count (run-count t (digits 10 l) U)
 
   pub decimal-exponent : (first (drop t.count l) ≡ 46 → ⊥) → (t.count ≡ 0 → ⊥) → is_e (first (drop t.count l)) ≡ true
       → exponent s t.kept t.zeros 0 (drop 1 (drop t.count l)) ≡ decimal_text s l
   unfolding decimal_text without_point
   decimal-exponent h k e =
-      rw (← decimal-after, ne_eqb (first (drop t.count l)) 46 h, decimal-digits, ne_eqb t.count 0 k, e)
+      rw (← decimal-after, ne_eqb (first (drop t.count l)) 46 h, decimal_digits, ne_eqb t.count 0 k, e)
       (ap (λ (r : List ℕ). exponent s t.kept t.zeros 0 r) (sym (rest-is (drop t.count l)))
       ∙ ap₂ (λ (d z : ℕ). exponent s d z 0 (rest (drop t.count l))) (run-kept t (digits 10 l) U) (run-zeros t (digits 10 l) U)
       ∙ exponent-kept s (significand 0 0 (digits 10 l)) (zeros 0 (digits 10 l)) 0 (rest (drop t.count l)))
 
   pub decimal-none : (first (drop t.count l) ≡ 46 → ⊥) → t.count ≡ 0 → None ≡ decimal_text s l
   unfolding decimal_text without_point
-  decimal-none h k = rw (← decimal-after, ne_eqb (first (drop t.count l)) 46 h, decimal-digits, eq-eqb t.count 0 k)
+  decimal-none h k = rw (← decimal-after, ne_eqb (first (drop t.count l)) 46 h, decimal_digits, eq-eqb t.count 0 k)
 
   pub decimal-whole : (first (drop t.count l) ≡ 46 → ⊥) → (t.count ≡ 0 → ⊥) → is_e (first (drop t.count l)) ≡ false
       → whole s t.value t.kept t.zeros (drop t.count l) ≡ decimal_text s l
   unfolding decimal_text without_point
   decimal-whole h k e =
-      rw (← decimal-after, ne_eqb (first (drop t.count l)) 46 h, decimal-digits, ne_eqb t.count 0 k, e)
+      rw (← decimal-after, ne_eqb (first (drop t.count l)) 46 h, decimal_digits, ne_eqb t.count 0 k, e)
       (ap (λ (v : ℕ). whole s v t.kept t.zeros (drop t.count l)) (run_value t (digits 10 l) U)
       ∙ ap₂ (λ (d z : ℕ). whole s (min (value_from 10 0 (digits 10 l)) stop_at) d z (drop t.count l)) (run-kept t (digits 10 l) U) (run-zeros t (digits 10 l) U)
       ∙ whole-kept s (value_from 10 0 (digits 10 l)) (significand 0 0 (digits 10 l)) (zeros 0 (digits 10 l)) (drop t.count l))

@@ -8,7 +8,7 @@ use Rattle.integer.specs.Wrap.{wrap}
 use Rattle.number.specs.Exact.{signed}
 use Rattle.figures.specs.Texts.{first, rest, is_empty, drop_blanks, only_blanks, is_x, is_e, digit, digits, after_digits, value_from, significand, zeros}
 use Rattle.figures.specs.Figures.{fraction, fits_integer, whole, raised, power, exponent, pointed, with_point, without_point, decimal_text, hex_text, unsigned, figure_of}
-use Rattle.figures.specs.Grammar.{Blanks, SignBytes, no_sign, plus_sign, minus_sign, DigitRun, no_digit, next-digit, ExponentPart, exponent-part, OptionalExponent, no-exponent, an_exponent, Literal, decimal_integer, hex_integer, decimal_fraction, Body, decimal-digits, hex-digits, with-point, with-exponent, FigureText, figure_text}
+use Rattle.figures.specs.Grammar.{Blanks, SignBytes, no_sign, plus_sign, minus_sign, DigitRun, no_digit, next_digit, ExponentPart, exponent_part, OptionalExponent, no_exponent, an_exponent, Literal, decimal_integer, hex_integer, decimal_fraction, Body, decimal_digits, hex_digits, with-point, with_exponent, FigureText, figure_text}
 use Rattle.figures.specs.declared.Figure.{Figure}
 use Rattle.figures.specs.declared.Figure.TheVariants.{Integer, None}
 use Rattle.figures.proofs.DigitLaws.{small-append}
@@ -42,8 +42,8 @@ stops-e u h = go (is-one_of (first u) 101 69 h)
 not-hex : {t ds : List ℕ} → DigitRun 10 t ds → (u : List ℕ) → Stops u → eqb (first (t ++ u)) 48 && is_x (first (rest (t ++ u))) ≡ false
 unfolding first rest
 not-hex no_digit u S = rw S.no_zero
-not-hex (next-digit {b = b} d k no_digit) u S = and-fails (eqb b 48) (is_x (first u)) S.no_letter
-not-hex (next-digit {b = b} d k (next-digit {b = c} g m r)) u S = and-fails (eqb b 48) (is_x c) (no-x c (let h : c ≤ 57 = (decimal-range g m).1 in omega arith))
+not-hex (next_digit {b = b} d k no_digit) u S = and-fails (eqb b 48) (is_x (first u)) S.no_letter
+not-hex (next_digit {b = b} d k (next_digit {b = c} g m r)) u S = and-fails (eqb b 48) (is_x c) (no-x c (let h : c ≤ 57 = (decimal-range g m).1 in omega arith))
 
 module _ (s : Bool) {t ds : List ℕ} (R : DigitRun 10 t ds) (u : List ℕ) (S : Stops u) where
   read-decimal : unsigned s (t ++ u) ≡ decimal_text s (t ++ u)
@@ -78,17 +78,17 @@ module _ (s : Bool) (d z p : ℕ) where
 
   read-pointed : {q u : List ℕ} {x : ℤ} → OptionalExponent q x → Blanks u → pointed s d z p (q ++ u) ≡ fraction s d (net_power z p x)
   unfolding pointed first rest
-  read-pointed {u = u} no-exponent B = rw (no-e (first u) (let h : first u < 33 = blanks-first B in omega arith), blanks-only B) (ap (fraction s d) (net_plain z p))
-  read-pointed (an_exponent (exponent-part h m R n)) B = rw h (read-exponent m R n B)
+  read-pointed {u = u} no_exponent B = rw (no-e (first u) (let h : first u < 33 = blanks-first B in omega arith), blanks-only B) (ap (fraction s d) (net_plain z p))
+  read-pointed (an_exponent (exponent_part h m R n)) B = rw h (read-exponent m R n B)
 
 -- the four forms of a body
 
 stops-exponent : {q : List ℕ} {x : ℤ} (u : List ℕ) → ExponentPart q x → Stops (q ++ u)
 unfolding first
-stops-exponent u (exponent-part {letter = c} {mark = m} {t = t} h M R n) = stops-e (c ∷ ((m ++ t) ++ u)) h
+stops-exponent u (exponent_part {letter = c} {mark = m} {t = t} h M R n) = stops-e (c ∷ ((m ++ t) ++ u)) h
 
 stops_optional : {q u : List ℕ} {x : ℤ} → OptionalExponent q x → Blanks u → Stops (q ++ u)
-stops_optional no-exponent B = stops-blank B
+stops_optional no_exponent B = stops-blank B
 stops_optional {u = u} (an_exponent e) B = stops-exponent u e
 
 module _ (s : Bool) {u : List ℕ} (B : Blanks u) where
@@ -117,7 +117,7 @@ module _ (s : Bool) {u : List ℕ} (B : Blanks u) where
   read-with-exponent : {t q ds : List ℕ} {x : ℤ} → DigitRun 10 t ds → 1 ≤ length ds → ExponentPart q x
       → unsigned s (t ++ (q ++ u)) ≡ fraction s (significand 0 0 ds) (net_power (zeros 0 ds) 0 x)
   unfolding without_point first rest
-  read-with-exponent {ds = ds} R n (exponent-part {letter = c} {mark = m} {t = t} h M R' n') =
+  read-with-exponent {ds = ds} R n (exponent_part {letter = c} {mark = m} {t = t} h M R' n') =
       read_plain s R (c ∷ ((m ++ t) ++ u)) (stops-e (c ∷ ((m ++ t) ++ u)) h) (no_point (is-one_of c 101 69 h))
       ∙ rw (not-empty ds n, h) (read-exponent s (significand 0 0 ds) (zeros 0 ds) 0 M R' n' B)
     where
@@ -129,32 +129,32 @@ regroup : (t b q u : List ℕ) → (t ++ (46 ∷ (b ++ q))) ++ u ≡ t ++ (46 �
 regroup t b q u = append_assoc t (46 ∷ (b ++ q)) u ∙ ap (λ (l : List ℕ). t ++ (46 ∷ l)) (append_assoc b q u)
 
 read-body : (s : Bool) {body u : List ℕ} {l : Literal} → Body body l → Blanks u → Yields s l (unsigned s (body ++ u))
-read-body s {u = u} (decimal-digits {ds = ds} R n) B = (
+read-body s {u = u} (decimal_digits {ds = ds} R n) B = (
   significand 0 0 ds,
   zeros 0 ds,
   scaled ds (run_small R),
   read_plain s R u (stops-blank B) (ne_eqb (first u) 46 (λ e. let h : first u < 33 = blanks-first B in omega arith)) ∙ read_whole s B ds n,
 )
-read-body s (hex-digits {x = x} h R n) B = read-hex s B x h R n
+read-body s (hex_digits {x = x} h R n) B = read-hex s B x h R n
 read-body s {u = u} (with-point {t = t} {u = b} {p = q} {before = before} {behind = behind} R R' n E) B = (
   significand 0 0 (before ++ behind),
   zeros 0 (before ++ behind),
   scaled (before ++ behind) (small-append before behind (run_small R) (run_small R')),
   ap (unsigned s) (regroup t b q u) ∙ read-with_point s B R R' n E,
 )
-read-body s {u = u} (with-exponent {t = t} {p = q} {ds = ds} R n E) B =
+read-body s {u = u} (with_exponent {t = t} {p = q} {ds = ds} R n E) B =
     (significand 0 0 ds, zeros 0 ds, scaled ds (run_small R), ap (unsigned s) (append_assoc t q u) ∙ read-with-exponent s B R n E)
 
 -- blanks and sign before it
 
 body-first : {body : List ℕ} {l : Literal} → Body body l → (u : List ℕ) → 46 ≤ first (body ++ u)
 unfolding first
-body-first (decimal-digits R n) u = omega (arith, run-first R n u)
-body-first (hex-digits h R n) u = omega arith
+body-first (decimal_digits R n) u = omega (arith, run-first R n u)
+body-first (hex_digits h R n) u = omega arith
 body-first (with-point no_digit R' n E) u = omega arith
-body-first (with-point (next-digit d k R) R' n E) u = omega (arith, decimal-range d k)
-body-first (with-exponent no_digit n E) u = absurd (omega arith)
-body-first (with-exponent (next-digit d k R) n E) u = omega (arith, decimal-range d k)
+body-first (with-point (next_digit d k R) R' n E) u = omega (arith, decimal-range d k)
+body-first (with_exponent no_digit n E) u = absurd (omega arith)
+body-first (with_exponent (next_digit d k R) n E) u = omega (arith, decimal-range d k)
 
 read-signed : {before mark : List ℕ} {s : Bool} → Blanks before → SignBytes mark s → (r : List ℕ) → 46 ≤ first r → figure_of (before ++ (mark ++ r)) ≡ unsigned s r
 unfolding figure_of first rest
@@ -212,7 +212,7 @@ signed-shape c h {mark} {b} M r q e P = record {
   part = c ∷ (mark ++ P.text);
   exponent = signed b (value_from 10 0 P.values);
   after = P.after;
-  form = exponent-part h M P.run P.many;
+  form = exponent_part h M P.run P.many;
   blanks = P.blanks;
   parts = ap (λ (l : List ℕ). c ∷ l) (e ∙ ap (λ (l : List ℕ). mark ++ l) P.parts ∙ sym (append_assoc mark P.text P.after));
 }
@@ -237,7 +237,7 @@ unfolding pointed
 pointed-shape s d z p r n =
     cond-split Something (is_e (first r)) (exponent s d z p (rest r)) (cond (only_blanks r) (fraction s d (minus z p)) None) n (λ h k. allowed (letter_shape s d z p r h k))
     (λ _ k. cond-split Something (only_blanks r) (fraction s d (minus z p)) None k
-    (λ h _. record { part = []; exponent = pos 0; after = r; form = no-exponent; blanks = only-blanks r h; parts = refl }) (λ _ m. absurd (m refl)))
+    (λ h _. record { part = []; exponent = pos 0; after = r; form = no_exponent; blanks = only-blanks r h; parts = refl }) (λ _ m. absurd (m refl)))
   where
     allowed : TailShape ExponentPart r → TailShape OptionalExponent r
     allowed T = record { part = T.part; exponent = T.exponent; after = T.after; form = an_exponent T.form; blanks = T.blanks; parts = T.parts }
@@ -268,7 +268,7 @@ hex-shape s r e x n =
       body = 48 ∷ first (rest r) ∷ (hex-off q).0;
       literal = hex_integer (value_from 16 0 (digits 16 q));
       after = after_digits 16 q;
-      form = hex-digits x (hex-off q).1 (some-digit (digits 16 q) h);
+      form = hex_digits x (hex-off q).1 (some-digit (digits 16 q) h);
       blanks = only-blanks (after_digits 16 q) k;
       parts = opens ∙ ap (λ (l : List ℕ). 48 ∷ first (rest r) ∷ l) (hex-off q).2;
     }
@@ -320,7 +320,7 @@ plain-shape s r n =
       body = (decimal-off r).0 ++ T.part;
       literal = decimal_fraction (value_from 10 0 ds) 0 T.exponent;
       after = T.after;
-      form = with-exponent (decimal-off r).1 (some-digit ds h) T.form;
+      form = with_exponent (decimal-off r).1 (some-digit ds h) T.form;
       blanks = T.blanks;
       parts = (decimal-off r).2 ∙ ap (λ (l : List ℕ). (decimal-off r).0 ++ l) T.parts ∙ sym (append_assoc (decimal-off r).0 T.part T.after);
     }
@@ -330,7 +330,7 @@ plain-shape s r n =
       body = (decimal-off r).0;
       literal = decimal_integer (value_from 10 0 ds);
       after = u;
-      form = decimal-digits (decimal-off r).1 (some-digit ds h);
+      form = decimal_digits (decimal-off r).1 (some-digit ds h);
       blanks = only-blanks u k;
       parts = (decimal-off r).2;
     }

@@ -6,7 +6,7 @@ use Rattle.integer.proofs.WrapLaws.{wrap_in_range, wrap_congruent}
 use Rattle.number.specs.Exact.{signed}
 use Rattle.figures.specs.Decimal.{decimal}
 use Rattle.figures.specs.Figures.{figure_of}
-use Rattle.figures.specs.Grammar.{Literal, decimal_integer, hex_integer, FigureText, Denotes, is-integer, hex-wraps, zero-fits, is_nearest, Reads}
+use Rattle.figures.specs.Grammar.{Literal, decimal_integer, hex_integer, FigureText, Denotes, is_integer, hex_wraps, zero_fits, is_nearest, Reads}
 use Rattle.figures.specs.Statements.{ReadSo, NothingElse, Outside, OutsideNone, IntegerStays, HexModulo, ReadNearest, FractionNearest}
 use Rattle.figures.specs.declared.Figure.{Figure}
 use Rattle.figures.specs.declared.Figure.TheVariants.{Integer, Number, None}
@@ -31,9 +31,9 @@ figure_reads t f e n = made (figure_shape t some)
 -- ---- what follows
 
 denotes_some : {s : Bool} {l : Literal} {f : Figure} → Denotes s l f → Something f
-denotes_some (is-integer h) e = let y : ◌≡◌ {A = ℕ} 0 1 = cc in omega arith
-denotes_some hex-wraps e = let y : ◌≡◌ {A = ℕ} 0 1 = cc in omega arith
-denotes_some (zero-fits b h) e = let y : ◌≡◌ {A = ℕ} 0 1 = cc in omega arith
+denotes_some (is_integer h) e = let y : ◌≡◌ {A = ℕ} 0 1 = cc in omega arith
+denotes_some hex_wraps e = let y : ◌≡◌ {A = ℕ} 0 1 = cc in omega arith
+denotes_some (zero_fits b h) e = let y : ◌≡◌ {A = ℕ} 0 1 = cc in omega arith
 denotes_some (is_nearest b h) e = let y : ◌≡◌ {A = ℕ} 0 1 = cc in omega arith
 
 pub outside-none : OutsideNone
@@ -45,22 +45,22 @@ outside-none t = (λ o. go o (figure_of t) refl, λ e f R. denotes_some R.figure
     go o None e = e
 
 pub integer_string : IntegerStays
-integer_string t s v F h = reads_figure t (Integer (signed s v)) (record { sign = s; literal = decimal_integer v; form = F; figure = is-integer h })
+integer_string t s v F h = reads_figure t (Integer (signed s v)) (record { sign = s; literal = decimal_integer v; form = F; figure = is_integer h })
 
 pub hex_string : HexModulo
 hex_string t s v F = record {
   x = wrap (signed s v);
   times = (wrap_congruent (signed s v)).0;
-  read_as = reads_figure t (Integer (wrap (signed s v))) (record { sign = s; literal = hex_integer v; form = F; figure = hex-wraps });
-  not-below = (wrap_in_range (signed s v)).0;
+  read_as = reads_figure t (Integer (wrap (signed s v))) (record { sign = s; literal = hex_integer v; form = F; figure = hex_wraps });
+  not_below = (wrap_in_range (signed s v)).0;
   not_past = (wrap_in_range (signed s v)).1;
   away = (wrap_congruent (signed s v)).1;
 }
 
 nearest_of : {s : Bool} {l : Literal} {f : Figure} → Denotes s l f → (t : List ℕ) (x : Float) → FigureText t s l → f ≡ Number x → (x ≡ decimal s 0 (pos 0) → ⊥) → ReadNearest t x
-nearest_of (is-integer h) t x F e n = absurd (let y : ◌≡◌ {A = ℕ} 0 1 = cc in omega arith)
-nearest_of hex-wraps t x F e n = absurd (let y : ◌≡◌ {A = ℕ} 0 1 = cc in omega arith)
-nearest_of (zero-fits b h) t x F e n = absurd (n (cc))
+nearest_of (is_integer h) t x F e n = absurd (let y : ◌≡◌ {A = ℕ} 0 1 = cc in omega arith)
+nearest_of hex_wraps t x F e n = absurd (let y : ◌≡◌ {A = ℕ} 0 1 = cc in omega arith)
+nearest_of (zero_fits b h) t x F e n = absurd (n (cc))
 nearest_of {s} {l} (is_nearest {d = d} {e = g} b I) t x F e n =
     let k : x ≡ decimal s d g = cc in
     record { sign = s; literal = l; d = d; e = g; form = F; in_set = I; rounded = k; closest = rw k (decimal-closest s d g I.fifteen_digits I.near_power) }

@@ -10,7 +10,7 @@ use Rattle.number.specs.Exact.{signed}
 use Rattle.figures.specs.Decimal.{tens, tenths, decimal}
 use Rattle.figures.specs.Texts.{value_from, significand, zeros}
 use Rattle.figures.specs.Figures.{fraction, fits_integer, raised}
-use Rattle.figures.specs.Grammar.{Literal, decimal_integer, hex_integer, decimal_fraction, ValueIs, InSet, ByFraction, a-fraction, too_large, Denotes, is-integer, hex-wraps, zero-fits, is_nearest}
+use Rattle.figures.specs.Grammar.{Literal, decimal_integer, hex_integer, decimal_fraction, ValueIs, InSet, ByFraction, a_fraction, too_large, Denotes, is_integer, hex_wraps, zero_fits, is_nearest}
 use Rattle.figures.specs.declared.Figure.{Figure}
 use Rattle.figures.specs.declared.Figure.TheVariants.{Integer, Number, None}
 use Rattle.figures.proofs.Scaling.{ten-pos}
@@ -150,7 +150,7 @@ fraction_denotes : (s : Bool) (d : ℕ) (e : ℤ) (l : Literal) → ByFraction s
 unfolding fraction
 fraction_denotes s d e l A none some =
     cond_cases Unless (eqb d 0) (Number (decimal s 0 (pos 0))) (cond (ltb d (10 ^ 15) && leb (nat_abs e) 22) (Number (decimal s d e)) None)
-    (λ h _. zero-fits A (none (eqb-true d 0 h)))
+    (λ h _. zero_fits A (none (eqb-true d 0 h)))
     (λ h. cond_cases Unless (ltb d (10 ^ 15) && leb (nat_abs e) 22) (Number (decimal s d e)) None (λ k _. is_nearest A (in_set (some (eqb-false d 0 h)) k)) (λ k n. absurd (n refl)))
   where
     Unless : Figure → Type 0
@@ -218,11 +218,11 @@ Yields s (hex_integer v) f = f ≡ Integer (wrap (signed s v))
 Yields s (decimal_fraction v p x) f = (d : ℕ) × (z : ℕ) × Scaled v d z × (f ≡ fraction s d (net_power z p x))
 
 pub yields_denoted : {s : Bool} {l : Literal} {f : Figure} → Denotes s l f → (g : Figure) → Yields s l g → g ≡ f
-yields_denoted (is-integer h) g y = y.3 ∙ rw h
-yields_denoted hex-wraps g y = y
-yields_denoted {s} (zero-fits (a-fraction {v = v} {places = p} {x = x}) i) g y = y.3 ∙ read-zero s v y.0 y.1 y.2.value y.2.bare p x i
-yields_denoted {s} (zero-fits (too_large {v = v} h) i) g y = y.3 ∙ rw h (read-zero s v y.0 y.1 y.2.value y.2.bare 0 (pos 0) (integer-fraction v 0 (pos 0) i))
-yields_denoted {s} (is_nearest {d = d} {e = e} (a-fraction {v = v} {places = p} {x = x}) i) g y = y.3 ∙ read_set s v y.0 y.1 y.2.value y.2.bare p x d e i
+yields_denoted (is_integer h) g y = y.3 ∙ rw h
+yields_denoted hex_wraps g y = y
+yields_denoted {s} (zero_fits (a_fraction {v = v} {places = p} {x = x}) i) g y = y.3 ∙ read-zero s v y.0 y.1 y.2.value y.2.bare p x i
+yields_denoted {s} (zero_fits (too_large {v = v} h) i) g y = y.3 ∙ rw h (read-zero s v y.0 y.1 y.2.value y.2.bare 0 (pos 0) (integer-fraction v 0 (pos 0) i))
+yields_denoted {s} (is_nearest {d = d} {e = e} (a_fraction {v = v} {places = p} {x = x}) i) g y = y.3 ∙ read_set s v y.0 y.1 y.2.value y.2.bare p x d e i
 yields_denoted {s} (is_nearest {d = d} {e = e} (too_large {v = v} h) i) g y =
     y.3 ∙ rw h (read_set s v y.0 y.1 y.2.value y.2.bare 0 (pos 0) d e (as_fraction i))
   where
@@ -237,8 +237,8 @@ denotes_yielded s (decimal_integer v) f y n = rw y.3 (go (rw y.3 at n))
 
     go : Unless (cond (fits_integer s v) (Integer (signed s v)) (fraction s y.0 (net_power y.1 0 (pos 0))))
     go =
-        cond_cases Unless (fits_integer s v) (Integer (signed s v)) (fraction s y.0 (net_power y.1 0 (pos 0))) (λ h _. is-integer h)
+        cond_cases Unless (fits_integer s v) (Integer (signed s v)) (fraction s y.0 (net_power y.1 0 (pos 0))) (λ h _. is_integer h)
         (λ h. value_read s v y.0 y.1 y.2.value y.2.bare 0 (pos 0) (decimal_integer v) (too_large h) (fraction-integer v))
-denotes_yielded s (hex_integer v) f y n = rw y hex-wraps
+denotes_yielded s (hex_integer v) f y n = rw y hex_wraps
 denotes_yielded s (decimal_fraction v p x) f y n =
-    rw y.3 (value_read s v y.0 y.1 y.2.value y.2.bare p x (decimal_fraction v p x) a-fraction (λ d e h. h) (rw y.3 at n))
+    rw y.3 (value_read s v y.0 y.1 y.2.value y.2.bare p x (decimal_fraction v p x) a_fraction (λ d e h. h) (rw y.3 at n))

@@ -37,7 +37,7 @@ pub record WrapsTo (t : List ℕ) (z : ℤ) : Type 0 where
   pub x : ℤ
   pub times : ℤ
   pub read_as : figure_of t ≡ Integer x
-  pub not-below : neg_ℤ (pos (2 ^ 63)) ≤ℤ x
+  pub not_below : neg_ℤ (pos (2 ^ 63)) ≤ℤ x
   pub not_past : x <ℤ pos (2 ^ 63)
   pub away : x ≡ z +ℤ pos (2 ^ 64) *ℤ times
 
