@@ -2,7 +2,7 @@
  * it ends; then prints the answer and the returned values.
  *
  *     tools/staticlib x86_64
- *     cc -I include -o host examples/host.c include/deletion_machine.c target/staticlib/libmachine.a -lm
+ *     cc -I include -o host examples/host.c include/deletion_machine.c target/staticlib/libmachine.a
  *     ./host rule.image [instructions in a part [argument...]]
  *
  * An argument is nil, true, false, an integer or a number: ./host rule.image 1000 20407 true 2.5 */

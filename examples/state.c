@@ -1,7 +1,7 @@
 /* A host of the deletion machine that puts a paused machine away and goes on with it later, in another process.
  *
  *     tools/staticlib x86_64
- *     cc -I include -o state examples/state.c include/deletion_machine.c target/staticlib/libmachine.a -lm
+ *     cc -I include -o state examples/state.c include/deletion_machine.c target/staticlib/libmachine.a
  *     ./state put rule.image 100 paused     runs at most 100 instructions, and writes the machine's state to a file
  *     ./state go rule.image paused          reads it back, and runs to the end
  *

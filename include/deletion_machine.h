@@ -1,7 +1,7 @@
 /* The deletion machine: reads an image, checks it, and runs it in parts.
  *
  *     tools/staticlib x86_64      proves and makes target/staticlib/libmachine.a, for x86-64 Linux
- *     cc host.c libmachine.a -lm  links it
+ *     cc host.c libmachine.a      links it; no other library is needed
  *
  * Stored states and texts, the last section, are C: deletion_machine.c, beside this file, is compiled with host.c.
  *

@@ -33,8 +33,6 @@ fn main() {
     let folder = archive.parent().unwrap_or_else(|| Path::new("."));
     println!("cargo:rustc-link-search=native={}", folder.display());
     println!("cargo:rustc-link-lib=static={name}");
-    // fmod
-    println!("cargo:rustc-link-lib=m");
 }
 
 /// Has `tools/staticlib` prove and make the library; it prints the archive's path, and on standard error how far it is. What is

@@ -23,6 +23,14 @@ LOCAL = {"crates/figures/proofs/TallyLaws.antt": ("one_more", "one_plus"), "crat
          "crates/quick/proofs/calls/moved/Proof.antt": ("moved_on", "moved_past")}
 
 
+# names that no declaration at the left shows: constructors of figures/specs/Grammar with a field of Statements, and parameters. (Turned later than the
+# others, in a commit of its own.)
+FIGURES = {n: n.replace("-", "_") for n in "a-fraction decimal-digits exponent-part hex-digits hex-wraps is-integer next-blank next-digit no-blank".split()}
+FIGURES.update({n: n.replace("-", "_") for n in "no-exponent with-exponent zero-fits not-below".split()})
+FIGURES.update({"from-A-to-F": "from_upper", "from-a-to-f": "from_lower"})
+PARAMETERS = {"goOn": "goes", "onIntegers": "on_integers", "onNumbers": "on_numbers", "onTexts": "on_texts"}
+
+
 def snake(name):
     if not name[0].islower() or not re.search("[A-Z]", name):
         return name
@@ -135,6 +143,12 @@ def main():
     for p in glob.glob("*.md") + glob.glob("docs/*.md"):
         t = open(p, encoding="utf-8").read()
         t2 = re.sub(r"`[^`\n]+`", lambda m: turned(m.group(0)), t)
+        if t2 != t:
+            open(p, "w", encoding="utf-8").write(t2)
+    for p in proofs:
+        t = open(p, encoding="utf-8").read()
+        last = dict(PARAMETERS, **FIGURES) if p.startswith("crates/figures/") else PARAMETERS
+        t2 = TOKEN.sub(lambda m: last.get(m.group(0), m.group(0)), t)
         if t2 != t:
             open(p, "w", encoding="utf-8").write(t2)
     with open("tools/names/respelled.txt", "w", encoding="utf-8") as f:
