@@ -1,7 +1,7 @@
 -- What the checker's answer says: it accepts exactly what keeps every rule everywhere, and refuses at the first bad place with its lowest number.
 -- Either there is a first bad place or there is none (`first`), and in each case the answer is worked out: so both hold both ways. Assumes nothing.
 use Prim.Native.Nat.{ℕ, zero, suc, ◌+◌, ◌-◌, ◌<◌, ◌≤◌}
-use mathlib.Core.Path.{◌≡◌, refl, sym, ◌∙◌}
+use mathlib.Core.Path.{◌≡◌, refl, sym, ap, ◌∙◌}
 use mathlib.Core.Bool.{true}
 use mathlib.Core.List.{List}
 use mathlib.Core.Logic.{◌↔◌, ◌⊎◌, inl, inr, ⊎_elim}
@@ -14,10 +14,9 @@ use Rattle.storage.specs.Layout.{Storage, long_enough}
 use Rattle.storage.specs.Fields.{prototypes_of, instructions_of}
 use Rattle.storage.specs.Stored.{image_in, reads_back}
 use Rattle.storage.proofs.Six.{readable, readable_back}
-use Rattle.checker.specs.Check.{site_of, broken_at, code_from, protos_from, search_of, check_of}
+use Rattle.checker.specs.Check.{Checked, accepted, refused, site_of, broken_at, code_from, protos_from, search_of, check_of}
 use Rattle.checker.specs.Kept.{KeptAt, Sound, Demanded, BadAt, none, empty, breaks, FirstBad}
-use Rattle.checker.specs.declared.Checked.{Checked}
-use Rattle.checker.specs.declared.Checked.TheVariants.{Accepted, Refused}
+use Rattle.checker.specs.declared.Refusal.{Refusal}
 use Rattle.checker.proofs.Lowest.{kept, unbroken}
 use Rattle.checker.proofs.Turns.{code-good, code-bad, code-end, search-none, search-start, proto_empty, proto_open, search-end}
 
@@ -69,12 +68,12 @@ module _ (table code : List ℕ) where
       ∙ code-reach d k k rest (omega arith) s.each ∙ code-end table code d k rest k (omega arith))
 
   search-passes :
-      (prototypes_of table ≡ 0 → ⊥) → ((q : ℕ) → q < prototypes_of table → Sound table code q) → search_of table code ≡ Accepted
+      (prototypes_of table ≡ 0 → ⊥) → ((q : ℕ) → q < prototypes_of table → Sound table code q) → search_of table code ≡ accepted
   search-passes z f =
       let n : ℕ = prototypes_of table in
       search-start table code n refl z ∙ protos_reach n n (omega arith) f ∙ search-end table code n n (omega arith)
 
-  search_refuses : {n q i : ℕ} → ((j : ℕ) → j < q → Sound table code j) → BadAt table code n q i → search_of table code ≡ Refused n q i
+  search_refuses : {n q i : ℕ} → ((j : ℕ) → j < q → Sound table code j) → BadAt table code n q i → search_of table code ≡ refused n q i
   search_refuses f (none z) = sym (search-none table code (prototypes_of table) refl z)
   search_refuses f (empty q h z) =
       let m : ℕ = prototypes_of table in
@@ -116,13 +115,13 @@ module _ (table code : List ℕ) where
       from z (all f) = inl (record { some = z; each = f })
       from z (one i h f b) = inr (bad_in (broken_at table code q i) i (λ g. breaks (broken_at table code q i) q i g h f refl b))
 
-apart : (n q i : ℕ) → Accepted ≡ Refused n q i → ⊥
+apart : (n q i : ℕ) → accepted ≡ refused n q i → ⊥
 apart n q i e =
     let z : ◌≡◌ {A = ℕ} 0 1 = cc in
     omega arith
 
 -- where the search finds nothing, every prototype is sound
-pub search-sound : (table code : List ℕ) → search_of table code ≡ Accepted → (q : ℕ) → q < prototypes_of table → Sound table code q
+pub search-sound : (table code : List ℕ) → search_of table code ≡ accepted → (q : ℕ) → q < prototypes_of table → Sound table code q
 search-sound table code e =
     from (first (Sound table code) (BadIn table code) (sound-or-bad table code) (prototypes_of table))
   where
@@ -134,11 +133,11 @@ data AnyBad (S : Storage) : Type 0 where
   any-bad : (n q i : ℕ) → FirstBad S n q i → AnyBad S
 
 module _ (S : Storage) where
-  accepts : Demanded S → check_of S ≡ Accepted
+  accepts : Demanded S → check_of S ≡ accepted
   unfolding check_of
   accepts d = rw (d.long, readable_back d.reads) (search-passes S.table S.code d.some d.each)
 
-  refuses : (n q i : ℕ) → FirstBad S n q i → check_of S ≡ Refused n q i
+  refuses : (n q i : ℕ) → FirstBad S n q i → check_of S ≡ refused n q i
   unfolding check_of
   refuses n q i f = rw (f.long, readable_back f.reads) (search_refuses S.table S.code f.before f.here)
 
@@ -157,30 +156,36 @@ module _ (S : Storage) where
         from z (one q h f (bad_in n i b)) = inr (any-bad n q i (record { long = l; image = image_in S; reads = readable S r; before = f; here = b h }))
 
   -- an answer that is neither 5 nor 6
-  judged : (v : Checked) → check_of S ≡ v → (v ≡ Refused 5 0 0 → ⊥) → (v ≡ Refused 6 0 0 → ⊥) → Demanded S ⊎ AnyBad S
+  judged : (v : Checked) → check_of S ≡ v → (v ≡ refused 5 0 0 → ⊥) → (v ≡ refused 6 0 0 → ⊥) → Demanded S ⊎ AnyBad S
   unfolding check_of
   judged v e n5 n6 =
       by_bool (long_enough S)
       (λ l. by_bool (reads_back S) (λ r. all-or-any l r) (λ r. absurd (n6 (sym (rw (l, r) at e)))))
       (λ l. absurd (n5 (sym (rw l at e))))
 
-  pub exact : (check_of S ≡ Accepted) ↔ Demanded S
-  exact = (λ e. ⊎_elim (λ d. d) (λ b. absurd (no e b)) (judged Accepted e (apart 5 0 0) (apart 6 0 0)), accepts)
+  pub exact : (check_of S ≡ accepted) ↔ Demanded S
+  exact = (λ e. ⊎_elim (λ d. d) (λ b. absurd (no e b)) (judged accepted e (apart 5 0 0) (apart 6 0 0)), accepts)
     where
-      no : check_of S ≡ Accepted → AnyBad S → ⊥
+      no : check_of S ≡ accepted → AnyBad S → ⊥
       no e (any-bad n q i f) = apart n q i (sym e ∙ refuses n q i f)
 
-  pub first-bad : (n q i : ℕ) → 10 ≤ n → (check_of S ≡ Refused n q i) ↔ FirstBad S n q i
+  abbrev place : ℕ → ℕ → ℕ → Refusal
+  place n q i = record { number = n; prototype = q; instruction = i }
+
+  pub first-bad : (n q i : ℕ) → 10 ≤ n → (check_of S ≡ refused n q i) ↔ FirstBad S n q i
   first-bad n q i h = (
     λ e. ⊎_elim (λ d. absurd (apart n q i (sym (accepts d) ∙ e))) (same e)
-        (judged (Refused n q i) e (λ z. let y : n ≡ 5 = cc in omega arith) (λ z. let y : n ≡ 6 = cc in omega arith)),
+        (judged (refused n q i) e (λ z. let r : place n q i ≡ place 5 0 0 = cc in
+        let y : n ≡ 5 = ap (λ x. x.number) r in omega arith) (λ z. let r : place n q i ≡ place 6 0 0 = cc in
+        let y : n ≡ 6 = ap (λ x. x.number) r in omega arith)),
     refuses n q i,
   )
     where
-      same : check_of S ≡ Refused n q i → AnyBad S → FirstBad S n q i
+      same : check_of S ≡ refused n q i → AnyBad S → FirstBad S n q i
       same e (any-bad n' q' i' f) =
           let g = refuses n' q' i' f in
-          let a : n ≡ n' = cc in
-          let b : q ≡ q' = cc in
-          let d : i ≡ i' = cc in
+          let r : place n q i ≡ place n' q' i' = cc in
+          let a : n ≡ n' = ap (λ x. x.number) r in
+          let b : q ≡ q' = ap (λ x. x.prototype) r in
+          let d : i ≡ i' = ap (λ x. x.instruction) r in
           rw (a, b, d) f

@@ -53,36 +53,25 @@ jump-apart close target n e =
 -- where the operands are a refusal, rule 10 is broken
 pub not_carried : (x : Shape) (s : Site) (n : ℕ) → operands_of x s.place s.word ≡ Bad n → carried x s ≡ false
 unfolding operands_of carried
-not_carried copies s n e = cc
-not_carried loads_constant s n e = cc
-not_carried loads_bool s n e = cc
-not_carried loads_nil s n e = cc
-not_carried calls s n e = cc
-not_carried returns s n e = cc
 not_carried jumps s n e = jump-apart (a_of s.word) (place_of s.place s.word) n e
-not_carried tests s n e = cc
-not_carried tests_and_sets s n e = cc
-not_carried closes s n e = cc
-not_carried prepares s n e = cc
-not_carried loops s n e = cc
-not_carried compares s n e = cc
-not_carried combines s n e = cc
-not_carried gets_up_value s n e = cc
-not_carried sets_up_value s n e = cc
 not_carried unknown s n e = refl
+not_carried _ s n e = cc
 
 module _ (s : Site) (n : ℕ) where
-  -- the number of a refusal
-  pub refused : decode_of s ≡ Bad n → broken_of s ≡ n
+  pub refused-broken : decode_of s ≡ Bad n → eqb (broken_of s) 0 ≡ false
   unfolding decode_of
-  refused e =
+  refused-broken e =
       by_bool (eqb (broken_of s) 0)
       (λ t. let k = kept s (eqb-true _ _ t) in
       let f : carried (shape_at s.word) s ≡ false = not_carried (shape_at s.word) s n (rw t at e) in
       let k10 = k.carried in
       cc)
-      (λ t. let b : Bad (broken_of s) ≡ Bad n = rw t at e in
-      cc)
+      (λ t. t)
+
+  -- the number of a refusal
+  pub refused : decode_of s ≡ Bad n → broken_of s ≡ n
+  unfolding decode_of
+  refused e = let b : Bad (broken_of s) ≡ Bad n = rw (refused-broken e) at e in cc
 
   pub refuses : (n ≡ 0 → ⊥) → broken_of s ≡ n → decode_of s ≡ Bad n
   unfolding decode_of

@@ -13,10 +13,8 @@ use Rattle.storage.specs.Fields.{first_instruction, registers_of, instructions_o
 use Rattle.checker.specs.Operations.{shape_of, next_of}
 use Rattle.checker.specs.Rules.{carried, tidy, registers_in, constants_in, targets_in, prototype_in_image, upvalues_in, inside, all_inside, lowest, broken_as, broken_of}
 use Rattle.checker.specs.Captures.{captures_at, bare_at}
-use Rattle.checker.specs.Check.{limits_of, site, broken_at, code_from}
+use Rattle.checker.specs.Check.{Checked, refused, limits_of, site, broken_at, code_from}
 use Rattle.checker.specs.declared.Limits.{Limits}
-use Rattle.checker.specs.declared.Checked.{Checked}
-use Rattle.checker.specs.declared.Checked.TheVariants.{Refused}
 use Rattle.checker.proofs.Turns.{code-good, code-bad}
 
 -- the rule that word 0 breaks at place p
@@ -53,12 +51,6 @@ module _ (table code : List ℕ) (q : ℕ) where
       rw (t, u) (rw (t, eq-eqb i 0 y) at e))
       (λ u. rw (t, u)))
       (λ t. rw t)
-
-  -- what is found from j on, where the loop's i has come to j
-  pub past-found :
-      (k i j : ℕ) (rest r : Checked) → k ≡ instructions_of table q → i ≤ j → j ≤ i
-      → code_from table code q (instructions_of table q - j) j rest ≡ r → code_from table code q (k - i) i rest ≡ r
-  past-found k i j rest r e g h f = let s : i ≡ j = omega arith in rw (s, e) f
 
   module _ (i : ℕ) (h : Past i) (kept : broken_at table code q i ≡ 0) where
     registers-some : ltb 0 (registers_of table q) ≡ true
@@ -103,7 +95,7 @@ module _ (table code : List ℕ) (q : ℕ) where
           (kept_on (i + d) (omega arith) (omega arith)))
 
       -- so the search goes on to the last one, and stops there
-      pub past-last : (k : ℕ) → k ≡ instructions_of table q → from i ≡ Refused 14 q (k - 1)
+      pub past-last : (k : ℕ) → k ≡ instructions_of table q → from i ≡ refused 14 q (k - 1)
       past-last k e =
           let f = followed in
           let s : i + (k - 1 - i) ≡ k - 1 = omega arith in

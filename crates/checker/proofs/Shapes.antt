@@ -1,4 +1,4 @@
--- From seven tests to the rules at a shape, and from an operation to its shape. Assumes nothing.
+-- From an operation to its shape. Assumes nothing.
 use Prim.Native.Nat.{ℕ, ◌+◌, ◌≤◌, ◌<◌}
 use mathlib.Core.Path.{◌≡◌, refl, sym, ap, ◌∙◌}
 use mathlib.Core.Bool.{Bool, true, false, false≢true, cond}
@@ -8,57 +8,12 @@ use native.Mathlib.Omega.{arith}
 use borrow.Author.Tests.{eqb-true, ne_eqb, lt-leb, leb-true, leb-false}
 use lib.Dec.{eqb, leb}
 use Rattle.choices.proofs.Choices.{by_bool, cond_cases}
-use Rattle.image.specs.Instruction.{operation_of, flags_of, a_of, b_of, c_of}
+use Rattle.image.specs.Instruction.{operation_of}
 use Rattle.checker.specs.Operations.{Shape, copies, combines, unknown, shape_of, Numbered, shape_at}
-use Rattle.checker.specs.Rules.{carried, tidy, registers_in, constants_in, targets_in, prototype_in_image, upvalues_in, lowest, broken_as, broken_of}
+use Rattle.checker.specs.Rules.{carried, lowest, broken_as, broken_of}
 use Rattle.checker.specs.Decode.{operands_of, decode_of}
-use Rattle.checker.specs.Steps.{BytesOf, judged, decode_as}
 use Rattle.checker.specs.declared.Site.{Site}
-use Rattle.checker.specs.declared.operands.Bytes.{Bytes}
-use Rattle.checker.specs.declared.Instruction.{Instruction}
 use Rattle.checker.specs.declared.Instruction.TheVariants.{Bad}
-
--- ---- a shape's decoder
-
-pub bytes : (w : ℕ) (x : Bytes) → BytesOf w x → x ≡ record { flags = flags_of w; a = a_of w; b = b_of w; c = c_of w }
-bytes w x h = rw (← h.flags, ← h.a, ← h.b, ← h.c)
-
--- the instruction matters only where its places lie inside
-same-inside :
-    (k10 k11 k12 k13 k14 k15 k16 : Bool) (i j : Instruction) → (k14 ≡ true → i ≡ j)
-    → judged (lowest k10 k11 k12 k13 k14 k15 k16) i ≡ judged (lowest k10 k11 k12 k13 k14 k15 k16) j
-unfolding judged lowest
-same-inside false k11 k12 k13 k14 k15 k16 i j f = refl
-same-inside true false k12 k13 k14 k15 k16 i j f = refl
-same-inside true true false k13 k14 k15 k16 i j f = refl
-same-inside true true true false k14 k15 k16 i j f = refl
-same-inside true true true true false k15 k16 i j f = refl
-same-inside true true true true true false k16 i j f = refl
-same-inside true true true true true true false i j f = refl
-same-inside true true true true true true true i j f = f refl
-
--- seven tests that are the rules at shape x decide as `decode_of` does there
-module _ (x : Shape) (s : Site) where
-  pub shaped :
-      {r i j : Instruction} {k10 k11 k12 k13 k14 k15 k16 : Bool} → r ≡ judged (lowest k10 k11 k12 k13 k14 k15 k16) i → k10 ≡ carried x s
-      → k11 ≡ tidy x s → k12 ≡ registers_in x s → k13 ≡ constants_in x s → k14 ≡ targets_in x s → k15 ≡ prototype_in_image x s
-      → k16 ≡ upvalues_in x s → (targets_in x s ≡ true → i ≡ j) → r ≡ decode_as x s j
-  unfolding broken_as
-  shaped {k10 = k10} {k11 = k11} {k12 = k12} {k13 = k13} {k14 = k14} {k15 = k15} {k16 = k16} e e10 e11 e12 e13 e14 e15 e16 f =
-      rw (← e10, ← e11, ← e12, ← e13, ← e14, ← e15, ← e16)
-      (e ∙ same-inside k10 k11 k12 k13 k14 k15 k16 _ _ (λ h. f (sym e14 ∙ h)))
-
--- ---- an operation's arm: its number gives the shape, and the shape's decoder gives the answer
-
-module _ (s : Site) where
-  pub arm :
-      {r i : Instruction} {o : ℕ} (k : ℕ) (x : Shape) → o ≡ operation_of s.word → o ≡ k → shape_of k ≡ x
-      → (operation_of s.word ≡ k → operands_of x s.place s.word ≡ i) → r ≡ decode_as x s i → r ≡ decode_of s
-  unfolding decode_of broken_of judged
-  arm {i = i} k x eo ek ex f e =
-      let z : operation_of s.word ≡ k = sym eo ∙ ek in
-      let t : shape_at s.word ≡ x = ap shape_of z ∙ ex in
-      rw (t, f z) e
 
 -- ---- the operations of a shape
 

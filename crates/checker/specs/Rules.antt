@@ -29,23 +29,10 @@ U s = s.limits.upvalues
 
 -- 10: "operation not carried, a count of 255 in Call or Return"; a close register of Jump is "no longer 10"
 unfoldable pub carried : Shape → Site → Bool
-carried copies s = true
-carried loads_constant s = true
-carried loads_bool s = true
-carried loads_nil s = true
 carried calls s = not (eqb (b s) 255) && not (eqb (c s) 255)
 carried returns s = not (eqb (b s) 255)
-carried jumps s = true
-carried tests s = true
-carried tests_and_sets s = true
-carried closes s = true
-carried prepares s = true
-carried loops s = true
-carried compares s = true
-carried combines s = true
-carried gets_up_value s = true
-carried sets_up_value s = true
 carried unknown s = false
+carried _ s = true
 
 -- 11: "unused byte or flag not zero, yes/no byte above 1"
 unfoldable pub tidy : Shape → Site → Bool
@@ -96,23 +83,10 @@ unfoldable pub source_constants : Site → Bool
 source_constants s = cond (left_is_constant s.word) (ltb (b s) (K s)) true && cond (right_is_constant s.word) (ltb (c s) (K s)) true
 
 unfoldable pub constants_in : Shape → Site → Bool
-constants_in copies s = true
 constants_in loads_constant s = ltb (bc_of s.word) (K s)
-constants_in loads_bool s = true
-constants_in loads_nil s = true
-constants_in calls s = true
-constants_in returns s = true
-constants_in jumps s = true
-constants_in tests s = true
-constants_in tests_and_sets s = true
-constants_in closes s = true
-constants_in prepares s = true
-constants_in loops s = true
 constants_in compares s = source_constants s
 constants_in combines s = source_constants s
-constants_in gets_up_value s = true
-constants_in sets_up_value s = true
-constants_in unknown s = true
+constants_in _ s = true
 
 -- 14: "Each place where the instruction may go next lies in 0 to n - 1"
 unfoldable pub inside : ℕ → ℤ → Bool
@@ -128,44 +102,16 @@ targets_in x s = all_inside s.limits.instructions (next_of x s.place s.word)
 
 -- 15: "Closure's prototype not in the image"
 unfoldable pub prototype_in_image : Shape → Site → Bool
-prototype_in_image copies s = true
-prototype_in_image loads_constant s = true
-prototype_in_image loads_bool s = true
-prototype_in_image loads_nil s = true
-prototype_in_image calls s = true
-prototype_in_image returns s = true
-prototype_in_image jumps s = true
-prototype_in_image tests s = true
-prototype_in_image tests_and_sets s = true
 prototype_in_image closes s = ltb (b s) s.limits.prototypes
-prototype_in_image prepares s = true
-prototype_in_image loops s = true
-prototype_in_image compares s = true
-prototype_in_image combines s = true
-prototype_in_image gets_up_value s = true
-prototype_in_image sets_up_value s = true
-prototype_in_image unknown s = true
+prototype_in_image _ s = true
 
 -- 16: "each descriptor in range of every prototype that names it in a Closure, upvalue operands below the descriptor count, and no descriptors on prototype 0";
 -- that "on prototype 0 at instruction 0", whatever stands there
 unfoldable pub upvalues_in : Shape → Site → Bool
-upvalues_in copies s = s.bare
-upvalues_in loads_constant s = s.bare
-upvalues_in loads_bool s = s.bare
-upvalues_in loads_nil s = s.bare
-upvalues_in calls s = s.bare
-upvalues_in returns s = s.bare
-upvalues_in jumps s = s.bare
-upvalues_in tests s = s.bare
-upvalues_in tests_and_sets s = s.bare
 upvalues_in closes s = s.captures && s.bare
-upvalues_in prepares s = s.bare
-upvalues_in loops s = s.bare
-upvalues_in compares s = s.bare
-upvalues_in combines s = s.bare
 upvalues_in gets_up_value s = ltb (b s) (U s) && s.bare
 upvalues_in sets_up_value s = ltb (a s) (U s) && s.bare
-upvalues_in unknown s = s.bare
+upvalues_in _ s = s.bare
 
 -- "the lowest number wins": the number of the first rule that is broken, 0 where none is; "16 .. after 15"
 unfoldable pub lowest : Bool → Bool → Bool → Bool → Bool → Bool → Bool → ℕ

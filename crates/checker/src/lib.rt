@@ -11,12 +11,9 @@ ghost use Rattle.std.specs.Prelude.{◌≡◌, ◌+◌, ◌-◌, ◌≤◌, ◌<
 ghost use Rattle.choices.specs.Below.{all_below};
 ghost use Rattle.storage.specs.Layout.{storage_in};
 ghost use Rattle.storage.specs.Fields.{first_instruction, instructions_of, descriptor_of};
-ghost use Rattle.checker.specs.Rules.{broken_of};
 ghost use Rattle.checker.specs.Decode.{decode_of, class_of};
 ghost use Rattle.checker.specs.Captures.{descriptor_in, captures_in, captures_at, bare_at};
-ghost use Rattle.checker.specs.Check.{limits_of, site_of, code_from, search_of, check_of};
-
-use storage::Validity;
+ghost use Rattle.checker.specs.Check.{Checked, limits_of, site_of, checked_at, code_from, search_of, check_of};
 
 // What an instruction may name: registers R, constants K and instructions n of its prototype, the image's prototypes, and
 // the upvalues of its prototype, as many as that has descriptors.
@@ -113,14 +110,28 @@ pub enum Class {
     Other,
 }
 
-// The checker's answer: accepted, or the number, the prototype and the instruction.
-#[derive(Clone, Copy)]
-pub enum Checked {
-    Accepted,
-    Refused(u8, usize, usize),
+// Where an image is refused, and by what: the number, the prototype and the instruction.
+#[derive(Clone, Copy, Debug, PartialEq, Eq)]
+pub struct Refusal {
+    pub number: u8,
+    pub prototype: usize,
+    pub instruction: usize,
+}
+
+impl Refusal {
+    fn at(number: u8, prototype: usize, instruction: usize) -> Refusal
+        ensures { result ≡ record { number = number; prototype = prototype; instruction = instruction } }
+    {
+        Refusal {
+            number,
+            prototype,
+            instruction,
+        }
+    }
 }
 
 // The instruction with its operands worked out, or refused.
+#[tactic(auto, unfolding(crate::specs::Operations::shape_of, crate::specs::Decode::decode_of, crate::specs::Decode::operands_of, crate::specs::Decode::unary_of, crate::specs::Decode::compare_of, crate::specs::Decode::binary_of, crate::specs::Rules::broken_of, crate::specs::Steps::judged))]
 pub fn decode(s: Site) -> Instruction
     ensures { result ≡ decode_of s }
 {
@@ -164,39 +175,13 @@ pub fn class_of(i: Instruction) -> Class
     ensures { result ≡ class_of i }
 {
     match i {
-        Instruction::Unary(_, _, _) => Class::Other,
-        Instruction::LoadConstant(_, _) => Class::Other,
-        Instruction::LoadBool(_, _, _) => Class::Other,
-        Instruction::LoadNil(_, _) => Class::Other,
         Instruction::Call(function, _, returns) => Class::Calls(function, returns),
         Instruction::Return(start, n) => Class::Returns(start, n),
-        Instruction::Jump(_) => Class::Other,
-        Instruction::Test(_, _) => Class::Other,
-        Instruction::TestSet(_, _, _) => Class::Other,
-        Instruction::Closure(_, _) => Class::Other,
-        Instruction::NumericForPrep(_, _) => Class::Other,
-        Instruction::NumericForLoop(_, _) => Class::Other,
-        Instruction::Compare(_, _, _, _) => Class::Other,
-        Instruction::Binary(_, _, _, _) => Class::Other,
-        Instruction::Bad(_) => Class::Other,
-        Instruction::GetUpValue(_, _) => Class::Other,
-        Instruction::SetUpValue(_, _) => Class::Other,
-        Instruction::Close(_, _) => Class::Other,
+        _ => Class::Other,
     }
 }
 
 // ---- the search
-
-// The rule that an instruction breaks, 0 where it keeps them all.
-fn broken(s: Site) -> u8
-    ensures { result ≡ broken_of s }
-{
-    let i = decode(s);
-    let Instruction::Bad(n) = i else {
-        return 0;
-    };
-    n
-}
 
 // What the instructions of prototype q may name.
 fn limits_of(table: &[u64], q: usize) -> Limits
@@ -212,61 +197,47 @@ fn limits_of(table: &[u64], q: usize) -> Limits
 }
 
 // Whether a descriptor is in range of prototype q: a register of it, or one of its upvalues.
+#[tactic(auto, unfolding(crate::specs::Captures::descriptor_in))]
 fn descriptor_in(table: &[u64], q: usize, d: usize) -> bool
     ensures { result ≡ descriptor_in table.now q d }
 {
     if d < 256 {
-        return d < storage::registers(table, q);
+        d < storage::registers(table, q)
+    } else {
+        d - 256 < storage::descriptors(table, q)
     }
-    d - 256 < storage::descriptors(table, q)
 }
 
 // The first n descriptors of the prototype that prototype q names.
 fn all_in(table: &[u64], q: usize, named: usize, n: usize) -> bool
     ensures { result ≡ all_below (λ i. descriptor_in table.now q (descriptor_of table.now named i)) n }
 {
-    let mut i: usize = 0;
-    while i < n {
-        if !descriptor_in(table, q, storage::descriptor(table, named, i)) {
-            return false;
-        }
-        i += 1;
-    }
-    true
+    (0..n).all(|i| descriptor_in(table, q, storage::descriptor(table, named, i)))
 }
 
 // No more than 8 are looked at, whatever the table says: a machine asks at every Closure.
+#[tactic(auto, unfolding(crate::specs::Captures::captures_in))]
 fn captures_in(table: &[u64], q: usize, named: usize) -> bool
     ensures { result ≡ captures_in table.now q named }
 {
     let n = storage::descriptors(table, named);
-    if 8 < n {
-        return false;
-    }
-    all_in(table, q, named, n)
+    n <= 8 && all_in(table, q, named, n)
 }
 
 // What only a Closure has looked at: every other instruction costs one test.
+#[tactic(auto, unfolding(crate::specs::Captures::captures_at))]
 fn captures_at(table: &[u64], q: usize, w: u64) -> bool
     ensures { result ≡ captures_at table.now q w }
 {
-    if image::operation_of(w) != 17 {
-        return true;
-    }
-    captures_in(table, q, image::b_of(w) as usize)
+    image::operation_of(w) != 17 || captures_in(table, q, usize::from(image::b_of(w)))
 }
 
 // Prototype 0 has no descriptors, which is asked at its instruction 0 alone.
+#[tactic(auto, unfolding(crate::specs::Captures::bare_at))]
 fn bare_at(table: &[u64], q: usize, p: usize) -> bool
     ensures { result ≡ bare_at table.now q p }
 {
-    if q != 0 {
-        return true;
-    }
-    if p != 0 {
-        return true;
-    }
-    storage::descriptors(table, 0) == 0
+    q != 0 || p != 0 || storage::descriptors(table, 0) == 0
 }
 
 // Instruction p of prototype q.
@@ -284,74 +255,74 @@ pub fn site_of(table: &[u64], code: &[u64], q: usize, p: usize) -> Site
     }
 }
 
+// What is said of instruction i of prototype q alone.
+fn check_at(table: &[u64], code: &[u64], q: usize, i: usize) -> Result<(), Refusal>
+    ensures { result ≡ checked_at table.now code.now q i }
+{
+    match decode(site_of(table, code, q, i)) {
+        Instruction::Bad(number) => Err(Refusal::at(number, q, i)),
+        _ => Ok(()),
+    }
+}
+
 // What is refused from instruction i on, where `code` has ended: each word there is 0, a Move of register 0 to itself.
 // So the first one breaks a rule, or the last one does, which none follows.
-fn past_code(table: &[u64], code: &[u64], q: usize, i: usize) -> Checked
+fn past_code(table: &[u64], code: &[u64], q: usize, i: usize) -> Result<(), Refusal>
     requires code_len_bound { length code.now ≤ first_instruction table.now q + i }
     requires i_bound { i < instructions_of table.now q }
     ensures { (rest : Checked) → code_from table.now code.now q (instructions_of table.now q - i) i rest ≡ result }
 {
-    let n = broken(site_of(table, code, q, i));
-    if n != 0 {
-        return Checked::Refused(n, q, i);
-    }
-    let instructions = storage::instructions(table, q);
-    Checked::Refused(14, q, instructions - 1)
+    check_at(table, code, q, i)?;
+    Err(Refusal::at(14, q, storage::instructions(table, q) - 1))
 }
 
 // The rules alone, of contents that are known to be an image's: "stops at the first bad one, out of both". On any other
 // it takes, for each entry of the table, no more turns than there are words in `code`: past the table's end a prototype has
-// no instructions, and past the code's end none is looked at but the first.
-pub fn search(table: &[u64], code: &[u64]) -> Checked
+// no instructions, and past the code's end none is looked at but the first. It is left by its label with the refusal's
+// place, as document 01 wants.
+pub fn search(table: &[u64], code: &[u64]) -> Result<(), Refusal>
     ensures { result ≡ search_of table.now code.now }
 {
     let prototypes = storage::prototypes(table);
     if prototypes == 0 {
-        return Checked::Refused(15, 0, 0);
+        return Err(Refusal::at(15, 0, 0));
     }
-    let mut found = Checked::Accepted;
-    let mut q: usize = 0;
-    'search: while q < prototypes {
-        let instructions = storage::instructions(table, q);
-        if instructions == 0 {
-            found = Checked::Refused(14, q, 0);
-            break 'search;
-        }
-        let first = storage::first_instruction(table, q);
-        let inside = slices::room(code.len(), first, instructions);
-        let mut i: usize = 0;
-        while i < inside {
-            let n = broken(site_of(table, code, q, i));
-            if n != 0 {
-                found = Checked::Refused(n, q, i);
-                break 'search;
+    'search: {
+        for q in 0..prototypes {
+            let instructions = storage::instructions(table, q);
+            if instructions == 0 {
+                break 'search Err(Refusal::at(14, q, 0));
             }
-            i += 1;
+            let first = storage::first_instruction(table, q);
+            let inside = slices::room(code.len(), first, instructions);
+            for i in 0..inside {
+                if let Err(refusal) = check_at(table, code, q, i) {
+                    break 'search Err(refusal);
+                }
+            }
+            if inside < instructions {
+                break 'search past_code(table, code, q, inside);
+            }
         }
-        if inside < instructions {
-            found = past_code(table, code, q, inside);
-            break 'search;
-        }
-        q += 1;
+        Ok(())
     }
-    found
 }
 
+#[tactic(auto, unfolding(crate::specs::Check::check_of, storage::specs::Stored::valid_of))]
 pub fn check(
     table: &[u64],
     code: &[u64],
     const_kinds: &[u8],
     const_words: &[u64],
     texts: &[u8],
-) -> Checked
+) -> Result<(), Refusal>
     ensures { result ≡ check_of (storage_in table code const_kinds const_words texts) }
 {
     if !storage::is_long_enough(table, code, const_kinds, const_words, texts) {
-        return Checked::Refused(5, 0, 0);
+        return Err(Refusal::at(5, 0, 0));
     }
-    let validity = storage::valid(table, code, const_kinds, const_words, texts);
-    match validity {
-        Validity::Six => Checked::Refused(6, 0, 0),
-        Validity::Bytes(_) => search(table, code),
+    if storage::valid(table, code, const_kinds, const_words, texts).is_none() {
+        return Err(Refusal::at(6, 0, 0));
     }
+    search(table, code)
 }

@@ -20,38 +20,37 @@ pub(crate) fn bytes_of(w: u64) -> Bytes
     ensures { BytesOf w result }
 {
     Bytes {
-        flags: image::flags_of(w) as usize,
-        a: image::a_of(w) as usize,
-        b: image::b_of(w) as usize,
-        c: image::c_of(w) as usize,
+        flags: usize::from(image::flags_of(w)),
+        a: usize::from(image::a_of(w)),
+        b: usize::from(image::b_of(w)),
+        c: usize::from(image::c_of(w)),
     }
 }
 
 pub(crate) fn bc_of(w: u64) -> usize
     ensures { result ≡ bc_of w }
 {
-    (image::b_of(w) as usize) * 256 + (image::c_of(w) as usize)
+    usize::from(image::b_of(w)) * 256 + usize::from(image::c_of(w))
 }
 
 // Whether a flag, 1 or 2, is set.
 fn has_flag(flags: usize, flag: usize) -> bool
     ensures { result ≡ cond (eqb flags flag) true (eqb flags 3) }
 {
-    if flags == flag {
-        return true;
-    }
-    flags == 3
+    (flags == flag) | (flags == 3)
 }
 
 fn make_operand(is_constant: bool, at: usize) -> Operand
     ensures { result ≡ cond is_constant (Operand.Constant at) (Operand.Register at) }
 {
     if is_constant {
-        return Operand::Constant(at);
+        Operand::Constant(at)
+    } else {
+        Operand::Register(at)
     }
-    Operand::Register(at)
 }
 
+#[tactic(auto, unfolding(crate::specs::Decode::left_operand, crate::specs::Operations::left_is_constant))]
 pub(crate) fn left_of(w: u64) -> Operand
     ensures { result ≡ left_operand w }
 {
@@ -59,6 +58,7 @@ pub(crate) fn left_of(w: u64) -> Operand
     make_operand(has_flag(x.flags, 1), x.b)
 }
 
+#[tactic(auto, unfolding(crate::specs::Decode::right_operand, crate::specs::Operations::right_is_constant))]
 pub(crate) fn right_of(w: u64) -> Operand
     ensures { result ≡ right_operand w }
 {
@@ -67,6 +67,7 @@ pub(crate) fn right_of(w: u64) -> Operand
 }
 
 // 12 for the sources: registers.
+#[tactic(auto, unfolding(crate::specs::Rules::sources_in, crate::specs::Operations::left_is_constant, crate::specs::Operations::right_is_constant))]
 pub(crate) fn sources_in(s: Site) -> bool
     ensures { result ≡ sources_in s }
 {
@@ -77,6 +78,7 @@ pub(crate) fn sources_in(s: Site) -> bool
 }
 
 // 13 for the sources: constants.
+#[tactic(auto, unfolding(crate::specs::Rules::source_constants, crate::specs::Operations::left_is_constant, crate::specs::Operations::right_is_constant))]
 pub(crate) fn source_constants(s: Site) -> bool
     ensures { result ≡ source_constants s }
 {

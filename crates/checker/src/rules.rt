@@ -1,6 +1,8 @@
-// The rules for one instruction, a shape at a time: what `judge` is given are the rules 10 to 16, in this order, and the
-// lowest that fails is the refusal. A rule's tests are joined by `&`: a decoder has no branch.
-ghost use Rattle.std.specs.Prelude.{◌≡◌, ◌+◌, eqb, cond};
+// The rules for one instruction, a shape at a time. A rule's tests are joined by `&`: a decoder has no branch. Shapes that
+// differ in a line have a decoder each: one for several would take as many parameters as it has lines.
+#![tactic(auto, using(crate::proofs::Places::placed), unfolding(crate::specs::Rules::carried, crate::specs::Rules::tidy, crate::specs::Rules::registers_in, crate::specs::Rules::constants_in, crate::specs::Rules::targets_in, crate::specs::Rules::all_inside, crate::specs::Operations::next_of, crate::specs::Rules::prototype_in_image, crate::specs::Rules::upvalues_in, crate::specs::Rules::broken_as, crate::specs::Rules::lowest, crate::specs::Steps::judged))]
+
+ghost use Rattle.std.specs.Prelude.{◌≡◌, ◌+◌, true, eqb, cond};
 ghost use Rattle.image.specs.Instruction.{a_of, b_of, c_of};
 ghost use Rattle.checker.specs.Operations.{copies, loads_constant, loads_bool, loads_nil, calls, returns, jumps, tests, tests_and_sets, closes, prepares, loops, compares, combines, gets_up_value, sets_up_value, bc_of};
 ghost use Rattle.checker.specs.Rules.{lowest};
@@ -9,41 +11,56 @@ ghost use Rattle.checker.specs.Steps.{judged, decode_as};
 
 use crate::{Binary, Compare, Instruction, Site, Unary, next, operands};
 
-// The lowest rule that is not kept, or the instruction.
-fn judge(
-    k10: bool,
-    k11: bool,
-    k12: bool,
-    k13: bool,
-    k14: bool,
-    k15: bool,
-    k16: bool,
-    i: Instruction,
-) -> Instruction
-    ensures { result ≡ judged (lowest k10 k11 k12 k13 k14 k15 k16) i }
-{
-    if !k10 {
-        return Instruction::Bad(10);
+// Which of the rules an instruction keeps: 10 to 16, in this order.
+#[derive(Clone, Copy)]
+struct Kept {
+    carried: bool,
+    tidy: bool,
+    registers: bool,
+    constants: bool,
+    targets: bool,
+    prototype: bool,
+    upvalues: bool,
+}
+
+impl Kept {
+    // What a shape keeps where it says nothing else.
+    fn at(s: Site) -> Kept
+        ensures { result ≡ record { carried = true; tidy = true; registers = true; constants = true; targets = true; prototype = true; upvalues = s.bare } }
+    {
+        Kept {
+            carried: true,
+            tidy: true,
+            registers: true,
+            constants: true,
+            targets: true,
+            prototype: true,
+            upvalues: s.bare,
+        }
     }
-    if !k11 {
-        return Instruction::Bad(11);
+
+    // The lowest rule that is not kept, or the instruction.
+    fn judge(self, i: Instruction) -> Instruction
+        ensures { result ≡ judged (lowest self.carried self.tidy self.registers self.constants self.targets self.prototype self.upvalues) i }
+    {
+        if !self.carried {
+            Instruction::Bad(10)
+        } else if !self.tidy {
+            Instruction::Bad(11)
+        } else if !self.registers {
+            Instruction::Bad(12)
+        } else if !self.constants {
+            Instruction::Bad(13)
+        } else if !self.targets {
+            Instruction::Bad(14)
+        } else if !self.prototype {
+            Instruction::Bad(15)
+        } else if !self.upvalues {
+            Instruction::Bad(16)
+        } else {
+            i
+        }
     }
-    if !k12 {
-        return Instruction::Bad(12);
-    }
-    if !k13 {
-        return Instruction::Bad(13);
-    }
-    if !k14 {
-        return Instruction::Bad(14);
-    }
-    if !k15 {
-        return Instruction::Bad(15);
-    }
-    if !k16 {
-        return Instruction::Bad(16);
-    }
-    i
 }
 
 pub(crate) fn decode_copies(u: Unary, s: Site) -> Instruction
@@ -51,19 +68,16 @@ pub(crate) fn decode_copies(u: Unary, s: Site) -> Instruction
 {
     let l = s.limits;
     let x = operands::bytes_of(s.word);
-    let next = next::next_inside(s);
+    let targets = next::next_inside(s);
     let tidy = (x.flags == 0) & (x.c == 0);
     let registers = (x.a < l.registers) & (x.b < l.registers);
-    judge(
-        true,
+    let kept = Kept {
         tidy,
         registers,
-        true,
-        next,
-        true,
-        s.bare,
-        Instruction::Unary(u, x.a, x.b),
-    )
+        targets,
+        ..Kept::at(s)
+    };
+    kept.judge(Instruction::Unary(u, x.a, x.b))
 }
 
 pub(crate) fn decode_load_constant(s: Site) -> Instruction
@@ -72,17 +86,15 @@ pub(crate) fn decode_load_constant(s: Site) -> Instruction
     let l = s.limits;
     let x = operands::bytes_of(s.word);
     let bc = operands::bc_of(s.word);
-    let next = next::next_inside(s);
-    judge(
-        true,
-        x.flags == 0,
-        x.a < l.registers,
-        bc < l.constants,
-        next,
-        true,
-        s.bare,
-        Instruction::LoadConstant(x.a, bc),
-    )
+    let targets = next::next_inside(s);
+    let kept = Kept {
+        tidy: x.flags == 0,
+        registers: x.a < l.registers,
+        constants: bc < l.constants,
+        targets,
+        ..Kept::at(s)
+    };
+    kept.judge(Instruction::LoadConstant(x.a, bc))
 }
 
 pub(crate) fn decode_load_bool(s: Site) -> Instruction
@@ -92,16 +104,13 @@ pub(crate) fn decode_load_bool(s: Site) -> Instruction
     let x = operands::bytes_of(s.word);
     let next = next::next_or_skip(s, x.c == 0);
     let tidy = (x.flags == 0) & (x.b <= 1) & (x.c <= 1);
-    judge(
-        true,
+    let kept = Kept {
         tidy,
-        x.a < l.registers,
-        true,
-        next.inside,
-        true,
-        s.bare,
-        Instruction::LoadBool(x.a, x.b == 1, next.at),
-    )
+        registers: x.a < l.registers,
+        targets: next.is_some(),
+        ..Kept::at(s)
+    };
+    kept.judge(Instruction::LoadBool(x.a, x.b == 1, next.unwrap_or(0)))
 }
 
 pub(crate) fn decode_load_nil(s: Site) -> Instruction
@@ -109,18 +118,15 @@ pub(crate) fn decode_load_nil(s: Site) -> Instruction
 {
     let l = s.limits;
     let x = operands::bytes_of(s.word);
-    let next = next::next_inside(s);
+    let targets = next::next_inside(s);
     let tidy = (x.flags == 0) & (x.c == 0);
-    judge(
-        true,
+    let kept = Kept {
         tidy,
-        x.a + x.b <= l.registers,
-        true,
-        next,
-        true,
-        s.bare,
-        Instruction::LoadNil(x.a, x.b),
-    )
+        registers: x.a + x.b <= l.registers,
+        targets,
+        ..Kept::at(s)
+    };
+    kept.judge(Instruction::LoadNil(x.a, x.b))
 }
 
 pub(crate) fn decode_call(s: Site) -> Instruction
@@ -128,19 +134,17 @@ pub(crate) fn decode_call(s: Site) -> Instruction
 {
     let l = s.limits;
     let x = operands::bytes_of(s.word);
-    let next = next::next_inside(s);
+    let targets = next::next_inside(s);
     let carried = (x.b != 255) & (x.c != 255);
     let registers = (x.a + 1 + x.b <= l.registers) & (x.a + x.c <= l.registers);
-    judge(
+    let kept = Kept {
         carried,
-        x.flags == 0,
+        tidy: x.flags == 0,
         registers,
-        true,
-        next,
-        true,
-        s.bare,
-        Instruction::Call(x.a, x.b, x.c),
-    )
+        targets,
+        ..Kept::at(s)
+    };
+    kept.judge(Instruction::Call(x.a, x.b, x.c))
 }
 
 pub(crate) fn decode_return(s: Site) -> Instruction
@@ -149,26 +153,25 @@ pub(crate) fn decode_return(s: Site) -> Instruction
     let l = s.limits;
     let x = operands::bytes_of(s.word);
     let tidy = (x.flags == 0) & (x.c == 0);
-    judge(
-        x.b != 255,
+    let kept = Kept {
+        carried: x.b != 255,
         tidy,
-        x.a + x.b <= l.registers,
-        true,
-        true,
-        true,
-        s.bare,
-        Instruction::Return(x.a, x.b),
-    )
+        registers: x.a + x.b <= l.registers,
+        ..Kept::at(s)
+    };
+    kept.judge(Instruction::Return(x.a, x.b))
 }
 
 // A close register of 255 is none.
+#[tactic(auto, unfolding(crate::specs::Decode::jump_of))]
 fn jump_or_close(close: usize, target: usize) -> Instruction
     ensures { result ≡ jump_of close target }
 {
     if close == 255 {
-        return Instruction::Jump(target);
+        Instruction::Jump(target)
+    } else {
+        Instruction::Close(close, target)
     }
-    Instruction::Close(close, target)
 }
 
 pub(crate) fn decode_jump(s: Site) -> Instruction
@@ -178,17 +181,14 @@ pub(crate) fn decode_jump(s: Site) -> Instruction
     let x = operands::bytes_of(s.word);
     let to = next::target_of(s);
     let registers = (x.a == 255) | (x.a < l.registers);
-    let i = jump_or_close(x.a, to.at);
-    judge(
-        true,
-        x.flags == 0,
+    let i = jump_or_close(x.a, to.unwrap_or(0));
+    let kept = Kept {
+        tidy: x.flags == 0,
         registers,
-        true,
-        to.inside,
-        true,
-        s.bare,
-        i,
-    )
+        targets: to.is_some(),
+        ..Kept::at(s)
+    };
+    kept.judge(i)
 }
 
 pub(crate) fn decode_test(s: Site) -> Instruction
@@ -196,18 +196,15 @@ pub(crate) fn decode_test(s: Site) -> Instruction
 {
     let l = s.limits;
     let x = operands::bytes_of(s.word);
-    let next = next::skip_inside(s);
+    let targets = next::skip_inside(s);
     let tidy = (x.flags == 0) & (x.b <= 1) & (x.c == 0);
-    judge(
-        true,
+    let kept = Kept {
         tidy,
-        x.a < l.registers,
-        true,
-        next,
-        true,
-        s.bare,
-        Instruction::Test(x.a, x.b == 1),
-    )
+        registers: x.a < l.registers,
+        targets,
+        ..Kept::at(s)
+    };
+    kept.judge(Instruction::Test(x.a, x.b == 1))
 }
 
 pub(crate) fn decode_test_set(s: Site) -> Instruction
@@ -215,19 +212,16 @@ pub(crate) fn decode_test_set(s: Site) -> Instruction
 {
     let l = s.limits;
     let x = operands::bytes_of(s.word);
-    let next = next::skip_inside(s);
+    let targets = next::skip_inside(s);
     let tidy = (x.flags == 0) & (x.c <= 1);
     let registers = (x.a < l.registers) & (x.b < l.registers);
-    judge(
-        true,
+    let kept = Kept {
         tidy,
         registers,
-        true,
-        next,
-        true,
-        s.bare,
-        Instruction::TestSet(x.a, x.b, x.c == 1),
-    )
+        targets,
+        ..Kept::at(s)
+    };
+    kept.judge(Instruction::TestSet(x.a, x.b, x.c == 1))
 }
 
 pub(crate) fn decode_closure(s: Site) -> Instruction
@@ -235,18 +229,17 @@ pub(crate) fn decode_closure(s: Site) -> Instruction
 {
     let l = s.limits;
     let x = operands::bytes_of(s.word);
-    let next = next::next_inside(s);
+    let targets = next::next_inside(s);
     let tidy = (x.flags == 0) & (x.c == 0);
-    judge(
-        true,
+    let kept = Kept {
         tidy,
-        x.a < l.registers,
-        true,
-        next,
-        x.b < l.prototypes,
-        s.captures & s.bare,
-        Instruction::Closure(x.a, x.b),
-    )
+        registers: x.a < l.registers,
+        targets,
+        prototype: x.b < l.prototypes,
+        upvalues: s.captures & s.bare,
+        ..Kept::at(s)
+    };
+    kept.judge(Instruction::Closure(x.a, x.b))
 }
 
 pub(crate) fn decode_prep(s: Site) -> Instruction
@@ -255,16 +248,13 @@ pub(crate) fn decode_prep(s: Site) -> Instruction
     let l = s.limits;
     let x = operands::bytes_of(s.word);
     let to = next::target_of(s);
-    judge(
-        true,
-        x.flags == 0,
-        x.a + 2 < l.registers,
-        true,
-        to.inside,
-        true,
-        s.bare,
-        Instruction::NumericForPrep(x.a, to.at),
-    )
+    let kept = Kept {
+        tidy: x.flags == 0,
+        registers: x.a + 2 < l.registers,
+        targets: to.is_some(),
+        ..Kept::at(s)
+    };
+    kept.judge(Instruction::NumericForPrep(x.a, to.unwrap_or(0)))
 }
 
 pub(crate) fn decode_loop(s: Site) -> Instruction
@@ -274,33 +264,35 @@ pub(crate) fn decode_loop(s: Site) -> Instruction
     let x = operands::bytes_of(s.word);
     let next = next::ahead(s.place, 1, l.instructions);
     let to = next::target_of(s);
-    judge(
-        true,
-        x.flags == 0,
-        x.a + 3 < l.registers,
-        true,
-        next.inside & to.inside,
-        true,
-        s.bare,
-        Instruction::NumericForLoop(x.a, to.at),
-    )
+    let kept = Kept {
+        tidy: x.flags == 0,
+        registers: x.a + 3 < l.registers,
+        targets: next.is_some() & to.is_some(),
+        ..Kept::at(s)
+    };
+    kept.judge(Instruction::NumericForLoop(x.a, to.unwrap_or(0)))
 }
 
 pub(crate) fn decode_compares(o: Compare, s: Site) -> Instruction
     ensures { result ≡ decode_as compares s (Instruction.Compare o (eqb (a_of s.word) 1) (left_operand s.word) (right_operand s.word)) }
 {
     let x = operands::bytes_of(s.word);
-    let next = next::skip_inside(s);
+    let targets = next::skip_inside(s);
     let tidy = (x.flags <= 3) & (x.a <= 1);
-    let registers = operands::sources_in(s);
-    let constants = operands::source_constants(s);
     let i = Instruction::Compare(
         o,
         x.a == 1,
         operands::left_of(s.word),
         operands::right_of(s.word),
     );
-    judge(true, tidy, registers, constants, next, true, s.bare, i)
+    let kept = Kept {
+        tidy,
+        registers: operands::sources_in(s),
+        constants: operands::source_constants(s),
+        targets,
+        ..Kept::at(s)
+    };
+    kept.judge(i)
 }
 
 pub(crate) fn decode_combines(o: Binary, s: Site) -> Instruction
@@ -308,7 +300,7 @@ pub(crate) fn decode_combines(o: Binary, s: Site) -> Instruction
 {
     let l = s.limits;
     let x = operands::bytes_of(s.word);
-    let next = next::next_inside(s);
+    let targets = next::next_inside(s);
     let registers = (x.a < l.registers) & operands::sources_in(s);
     let constants = operands::source_constants(s);
     let i = Instruction::Binary(
@@ -317,16 +309,14 @@ pub(crate) fn decode_combines(o: Binary, s: Site) -> Instruction
         operands::left_of(s.word),
         operands::right_of(s.word),
     );
-    judge(
-        true,
-        x.flags <= 3,
+    let kept = Kept {
+        tidy: x.flags <= 3,
         registers,
         constants,
-        next,
-        true,
-        s.bare,
-        i,
-    )
+        targets,
+        ..Kept::at(s)
+    };
+    kept.judge(i)
 }
 
 pub(crate) fn decode_get_up_value(s: Site) -> Instruction
@@ -334,19 +324,17 @@ pub(crate) fn decode_get_up_value(s: Site) -> Instruction
 {
     let l = s.limits;
     let x = operands::bytes_of(s.word);
-    let next = next::next_inside(s);
+    let targets = next::next_inside(s);
     let tidy = (x.flags == 0) & (x.c == 0);
     let upvalues = (x.b < l.upvalues) & s.bare;
-    judge(
-        true,
+    let kept = Kept {
         tidy,
-        x.a < l.registers,
-        true,
-        next,
-        true,
+        registers: x.a < l.registers,
+        targets,
         upvalues,
-        Instruction::GetUpValue(x.a, x.b),
-    )
+        ..Kept::at(s)
+    };
+    kept.judge(Instruction::GetUpValue(x.a, x.b))
 }
 
 pub(crate) fn decode_set_up_value(s: Site) -> Instruction
@@ -354,17 +342,15 @@ pub(crate) fn decode_set_up_value(s: Site) -> Instruction
 {
     let l = s.limits;
     let x = operands::bytes_of(s.word);
-    let next = next::next_inside(s);
+    let targets = next::next_inside(s);
     let tidy = (x.flags == 0) & (x.c == 0);
     let upvalues = (x.a < l.upvalues) & s.bare;
-    judge(
-        true,
+    let kept = Kept {
         tidy,
-        x.b < l.registers,
-        true,
-        next,
-        true,
+        registers: x.b < l.registers,
+        targets,
         upvalues,
-        Instruction::SetUpValue(x.a, x.b),
-    )
+        ..Kept::at(s)
+    };
+    kept.judge(Instruction::SetUpValue(x.a, x.b))
 }

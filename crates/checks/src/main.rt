@@ -11,10 +11,8 @@
 
 ghost use Rattle.std.specs.Prelude.{◌+◌, ◌≤◌, length, IfOk};
 
-use checker::Checked;
-use image::Judged;
+use checker::Refusal;
 use std::io;
-use std::io::Read;
 
 // ---- what is written
 
@@ -22,17 +20,17 @@ fn print(rt: &impl Print, x: u64) -> io::Result<()> {
     print!(rt; "{x} ")
 }
 
-fn print_answer(rt: &impl Print, r: Checked) -> io::Result<()> {
+fn print_answer(rt: &impl Print, r: Result<(), Refusal>) -> io::Result<()> {
     match r {
-        Checked::Accepted => {
+        Ok(()) => {
             print(rt, 0)?;
             print(rt, 0)?;
             print(rt, 0)?;
         }
-        Checked::Refused(n, q, i) => {
-            print(rt, n as u64)?;
-            print(rt, q as u64)?;
-            print(rt, i as u64)?;
+        Err(refusal) => {
+            print(rt, refusal.number as u64)?;
+            print(rt, refusal.prototype as u64)?;
+            print(rt, refusal.instruction as u64)?;
         }
     }
     rt.println("")
@@ -52,12 +50,12 @@ fn change(
     let at = lists::decimal_at(line, 2);
     let v = lists::number_at(line, 8, 16);
     let b = (v % 256) as u8;
-    match slices::byte_at(line, 0, 1) {
-        b't' => slices::put_word(table, 0, at, v),
-        b'c' => slices::put_word(code, 0, at, v),
-        b'k' => slices::put_byte(const_kinds, 0, at, b),
-        b'w' => slices::put_word(const_words, 0, at, v),
-        _ => slices::put_byte(texts, 0, at, b),
+    match slices::get(line, 0, 1) {
+        b't' => slices::put(table, 0, at, v),
+        b'c' => slices::put(code, 0, at, v),
+        b'k' => slices::put(const_kinds, 0, at, b),
+        b'w' => slices::put(const_words, 0, at, v),
+        _ => slices::put(texts, 0, at, b),
     }
 }
 
@@ -119,7 +117,7 @@ fn run(rt: &impl Print, s: &[u8], line: &[u8]) -> io::Result<()> {
         &mut const_words,
         &mut texts,
     );
-    if let Judged::Refused(_, _) = r {
+    if r.is_err() {
         return rt.println("not read");
     }
     change_all(
@@ -145,7 +143,7 @@ fn play_line(rt: &impl Print, s: &[u8], start: usize, at: usize, e: usize) -> io
     requires { (start ≤ at) × (at ≤ e) × (e ≤ length s.now) }
     ensures { IfOk result (λ next. next ≤ e + 1) }
 {
-    let kind = slices::byte_at(s, at, 0);
+    let kind = slices::get(s, at, 0);
     if kind == b'#' {
         echo(rt, &s[at..e])?;
         return Ok(e + 1);
@@ -168,19 +166,8 @@ fn play(rt: &impl Print, s: &[u8]) -> io::Result<()> {
     Ok(())
 }
 
-// Fills a buffer from the input, or as much of it as the input has. Answers how many bytes that is.
-fn read_full(rt: &impl Input, buffer: &mut [u8]) -> io::Result<usize>
-    ensures { IfOk result (λ n. n ≤ length buffer.new) }
-{
-    let room = buffer.len();
-    let mut rest = &mut buffer[..];
-    io::copy(&mut rt.reader().take(room as u64), &mut rest)?;
-    let left = rest.len();
-    Ok(room.saturating_sub(left))
-}
-
 fn main(rt: HostRuntime) -> io::Result<()> {
     let mut list = [0u8; 393216];
-    let n = read_full(&rt, &mut list)?;
+    let n = lists::read_full(&rt, &mut list)?;
     play(&rt, &list[..n])
 }

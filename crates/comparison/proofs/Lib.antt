@@ -3,6 +3,4 @@
 pub mod TextLaws
 pub mod EqualLaws
 pub mod ExactLaws
-mod Pairings
-mod Compare
-mod Texts
+mod Orders

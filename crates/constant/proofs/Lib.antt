@@ -1,3 +1,2 @@
--- The laws of this crate's definitions: a value in a register (`Registers`); and what an arm of a `match` over values answers (`Arms`).
+-- The laws of this crate's definitions: a value in a register.
 pub mod Registers
-pub mod Arms

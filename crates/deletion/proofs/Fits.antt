@@ -12,8 +12,8 @@ use borrow.Author.Tests.{eq-eqb, eqb-true, ltb-true}
 use Rattle.choices.proofs.Choices.{by_bool, cond_cases, and_left, and_right}
 use Rattle.slices.specs.Ranges.{text_at}
 use Rattle.image.specs.Frames.{payload, frames_of}
-use Rattle.image.specs.declared.Judged.{Judged}
-use Rattle.image.specs.declared.Judged.TheVariants as judged
+use Rattle.std.specs.Prelude.{Ok, Err}
+use Rattle.image.specs.Judge.{Judged}
 use Rattle.image.specs.Write.{word_bytes, frame_bytes}
 use Rattle.image.proofs.HexLaws.{hex-length}
 use Rattle.storage.specs.Layout.{Storage, blank_storage}
@@ -31,8 +31,7 @@ use Rattle.cells.specs.Cells.{entry_in}
 use Rattle.fitness.specs.Fit.{fit_of, there_in, value_fits, register_fits}
 use Rattle.fitness.specs.Facts.{Valid}
 use Rattle.fitness.proofs.Facts.{fit-facts}
-use Rattle.checker.specs.declared.Checked.{Checked}
-use Rattle.checker.specs.declared.Checked.TheVariants as checked
+use Rattle.checker.specs.Check.{Checked}
 use Rattle.starter.specs.Start.{start_of}
 use Rattle.step.specs.Run.{answer_of, standing_of, run_of}
 use Rattle.step.specs.declared.Outcome.{Outcome}
@@ -175,15 +174,15 @@ module _ (S : Storage) (s : State) where
 
 started-fits : (allowed : ℕ) (S : Storage) (c : Checked) (s : State) → length (started_output allowed S c s) ≤ output_size
 unfolding started_output ended_output
-started-fits allowed S checked.Accepted s = run_fits S (run_of S allowed s).state (run_of S allowed s).answer
-started-fits allowed S (checked.Refused n q i) s = omega (arith, answer-length (check_answer (checked.Refused n q i)))
+started-fits allowed S (Ok u) s = run_fits S (run_of S allowed s).state (run_of S allowed s).answer
+started-fits allowed S (Err r) s = omega (arith, answer-length (check_answer (Err r)))
 
 read_fits : (g : Given) (j : Judged) (S : Storage) → length (read_output g j S) ≤ output_size
 unfolding read_output stored_output
-read_fits g (judged.Accepted n) S =
+read_fits g (Ok n) S =
     let start = start_of S g.arg_kinds g.arg_words blank_state in
     started-fits g.budget S start.answer start.state
-read_fits g (judged.Refused n line) S = omega (arith, answer-length (read_answer (judged.Refused n line)))
+read_fits g (Err r) S = omega (arith, answer-length (read_answer (Err r)))
 
 pub output-fits : AlwaysFits
 unfolding output_of

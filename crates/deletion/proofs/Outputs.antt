@@ -6,15 +6,16 @@ use mathlib.Core.List.{List}
 use native.Mathlib.Nat.{zero-add}
 use lib.ListN.{length, drop, length-append}
 use lib.Seq.{sets-eq}
-use Rattle.image.specs.declared.Judged.{Judged}
-use Rattle.image.specs.declared.Judged.TheVariants as judged
+use Rattle.std.specs.Prelude.{Ok, Err}
+use Rattle.image.specs.Judge.{Judged}
+use Rattle.image.specs.declared.ReadRefusal.{ReadRefusal}
 use Rattle.storage.specs.Layout.{Storage, blank_storage}
 use Rattle.reader.specs.Reading.{Read}
 use Rattle.writer.specs.Writing.{Lined}
 use Rattle.writer.specs.Putting.{Room, Put}
 use Rattle.writer.proofs.Puts.{put_then, room-then}
-use Rattle.checker.specs.declared.Checked.{Checked}
-use Rattle.checker.specs.declared.Checked.TheVariants as checked
+use Rattle.checker.specs.Check.{Checked}
+use Rattle.checker.specs.declared.Refusal.{Refusal}
 use Rattle.state.specs.States.{State, blank_state}
 use Rattle.starter.specs.Start.{started, start_of}
 use Rattle.step.specs.Run.{ended, run_of}
@@ -53,22 +54,22 @@ module _ (S : Storage) (t : State) (o : Outcome) (v : Values) (e : v ≡ returne
 -- ---- a start
 
 module _ (g : Given) (S : Storage) (c : Checked) (s : State) (b : started c s ≡ start_of S g.arg_kinds g.arg_words blank_state) where
-  pub start-refused : (n q i : ℕ) → c ≡ checked.Refused n q i → (o : Outcome) → o ≡ check_answer c → answer_line o ≡ stored_output g S
+  pub start-refused : (y : Refusal) → c ≡ Err y → (o : Outcome) → o ≡ check_answer c → answer_line o ≡ stored_output g S
   unfolding stored_output started_output
-  start-refused n q i e o f = rw (← b, f, e)
+  start-refused y e o f = rw (← b, f, e)
 
-  pub start-run : c ≡ checked.Accepted → ended_output S (run_of S g.budget s) ≡ stored_output g S
+  pub start-run : c ≡ Ok tt → ended_output S (run_of S g.budget s) ≡ stored_output g S
   unfolding stored_output started_output
   start-run e = rw (← b, e)
 
 -- ---- reading
 
 module _ (g : Given) (image : List ℕ) (j : Judged) (S : Storage) (r : Read image j blank_storage S) where
-  pub read-refused : (n line : ℕ) → j ≡ judged.Refused n line → (o : Outcome) → o ≡ read_answer j → answer_line o ≡ output_of g image
+  pub read-refused : (y : ReadRefusal) → j ≡ Err y → (o : Outcome) → o ≡ read_answer j → answer_line o ≡ output_of g image
   unfolding output_of read_output
-  read-refused n line e o f = rw (← r.answer, f, e)
+  read-refused y e o f = rw (← r.answer, f, e)
 
-  pub read-stored : (n : ℕ) → j ≡ judged.Accepted n → stored_output g S ≡ output_of g image
+  pub read-stored : (n : ℕ) → j ≡ Ok n → stored_output g S ≡ output_of g image
   unfolding output_of read_output
   read-stored n e = rw (r.left, ← r.answer, e)
 

@@ -3,14 +3,13 @@
 -- then each returned value as a `b0` line, a function as tag 05 and its prototype." With a budget and arguments of its caller's it writes the same. Assumes nothing.
 use Rattle.std.specs.Prelude.{ℕ, zero, suc, ◌+◌, ◌-◌, ◌≤◌, ◌≡◌, cond, List, [], ◌++◌, length, get_or, eqb}
 use Rattle.image.specs.Frames.{frames_of}
-use Rattle.image.specs.declared.Judged.{Judged}
-use Rattle.image.specs.declared.Judged.TheVariants as judged
+use Rattle.std.specs.Prelude.{Ok, Err}
+use Rattle.image.specs.Judge.{Judged}
 use Rattle.storage.specs.Layout.{Storage, laid, blank_storage}
 use Rattle.reader.specs.Reading.{read_of, left_of}
 use Rattle.writer.specs.Writing.{line_of}
 use Rattle.constant.specs.Values.{text_of}
-use Rattle.checker.specs.declared.Checked.{Checked}
-use Rattle.checker.specs.declared.Checked.TheVariants as checked
+use Rattle.checker.specs.Check.{Checked}
 use Rattle.state.specs.States.{State, blank_state}
 use Rattle.cells.specs.Cells.{entry_in}
 use Rattle.starter.specs.Start.{start_of}
@@ -67,8 +66,8 @@ ended_output S e = answer_line e.answer ++ returned_lines S e.state e.answer (re
 -- ---- started with its arguments, in a state of the published sizes; where the start is refused, its answer alone
 
 unfoldable pub started_output : ℕ → Storage → Checked → State → List ℕ
-started_output allowed S checked.Accepted s = ended_output S (run_of S allowed s)
-started_output allowed S (checked.Refused number q i) s = answer_line (check_answer (checked.Refused number q i))
+started_output allowed S (Ok u) s = ended_output S (run_of S allowed s)
+started_output allowed S (Err refusal) s = answer_line (check_answer (Err refusal))
 
 unfoldable pub stored_output : Given → Storage → List ℕ
 stored_output g S =
@@ -78,8 +77,8 @@ stored_output g S =
 -- ---- "reads an image", into storage of the published sizes; where that is refused, its answer alone
 
 unfoldable pub read_output : Given → Judged → Storage → List ℕ
-read_output g (judged.Accepted n) S = stored_output g S
-read_output g (judged.Refused number line) S = answer_line (read_answer (judged.Refused number line))
+read_output g (Ok n) S = stored_output g S
+read_output g (Err refusal) S = answer_line (read_answer (Err refusal))
 
 unfoldable pub output_of : Given → List ℕ → List ℕ
 output_of g image = read_output g (read_of image blank_storage) (left_of (read_of image blank_storage) (frames_of image) blank_storage)

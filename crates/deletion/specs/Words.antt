@@ -1,22 +1,20 @@
 -- What a word of the command line stands for. As an argument: nil, true and false by their names; a figure, read as document 02 reads one in a string (1/12), is
 -- that integer or number; every other word stays a string, which no start takes (20). As a budget: an integer from 0 to 4,294,967,295. Assumes nothing.
-use Rattle.std.specs.Prelude.{ℕ, ◌^◌, Bool, true, false, cond, List, [], ◌∷◌, ltb}
+use Rattle.std.specs.Prelude.{ℕ, ◌^◌, Bool, true, false, cond, List, [], ◌∷◌, ltb, Option, Some, None}
 use Rattle.std.specs.Int.{w64}
 use Rattle.std.proofs.Common.{of_z}
-use Rattle.number.specs.Order.{is_equal}
+use Rattle.std.specs.Ordering.{is_eq}
 use Rattle.constant.specs.declared.Value.{Value}
 use Rattle.constant.specs.declared.Value.TheVariants as value
 use Rattle.comparison.specs.Comparison.{text_order}
 use Rattle.figures.specs.Figures.{figure_of}
 use Rattle.figures.specs.Figured.{read_as}
-use Rattle.deletion.specs.declared.words.Budget.{Budget}
-use Rattle.deletion.specs.declared.words.Budget.TheVariants as budget
 
 -- ---- an argument
 
 -- whether a word has just the bytes of a name
 abbrev pub says : List ℕ → List ℕ → Bool
-says name word = is_equal (text_order word name)
+says name word = is_eq (text_order word name)
 
 -- the names, in ASCII
 abbrev pub nil_word : List ℕ
@@ -36,17 +34,13 @@ argument_of word =
 
 -- ---- a budget
 
-unfoldable pub small_of : ℕ → Budget
-small_of n = cond (ltb n (2 ^ 32)) (budget.Of n) budget.None
+unfoldable pub small_of : ℕ → Option ℕ
+small_of n = cond (ltb n (2 ^ 32)) (Some n) None
 
 -- of an integer below 0 the 64 bits are 2 ^ 63 or more
-abbrev pub allowed_of : Value → Budget
-allowed_of value.Nil = budget.None
-allowed_of (value.Boolean b) = budget.None
+abbrev pub allowed_of : Value → Option ℕ
 allowed_of (value.Integer x) = small_of (of_z w64 x)
-allowed_of (value.Number x) = budget.None
-allowed_of (value.String n) = budget.None
-allowed_of (value.Function n) = budget.None
+allowed_of _ = None
 
-abbrev pub budget_of : List ℕ → Budget
+abbrev pub budget_of : List ℕ → Option ℕ
 budget_of word = allowed_of (read_as 0 (figure_of word))

@@ -15,7 +15,6 @@ use std::env::FillError;
 use std::io;
 use std::io::Read;
 use std::rt::Env;
-use words::Budget;
 
 // One more than a start takes, so that more are seen to be.
 const MOST: usize = 9;
@@ -31,27 +30,25 @@ fn put_argument(env: &impl Env, i: usize, n: usize, kinds: &mut [u8], words: &mu
     let mut text = [0u8; 4096];
     let got = env.arg(i, &mut text).unwrap_or(0);
     let v = words::argument_of(&text[..got]);
-    slices::put_byte(kinds, n, 0, constant::kind_of(v));
-    slices::put_word(words, n, 0, constant::word_of(v));
+    slices::put(kinds, n, 0, constant::kind_of(v));
+    slices::put(words, n, 0, constant::word_of(v));
 }
 
 // The arguments: what the words behind the budget stand for. How many they are is answered.
 fn arguments(env: &impl Env, kinds: &mut [u8], words: &mut [u64]) -> usize
     ensures { result ≤ 9 }
 {
-    let mut n = 0;
-    while n < MOST {
+    for n in 0..MOST {
         if !is_given(env, n + 2) {
             return n;
         }
         put_argument(env, n + 2, n, kinds, words);
-        n += 1;
     }
-    n
+    MOST
 }
 
 // What the first word stands for as a budget.
-fn budget_given(env: &impl Env) -> Budget {
+fn budget_given(env: &impl Env) -> Option<u32> {
     let mut text = [0u8; 4096];
     let got = env.arg(1, &mut text).unwrap_or(0);
     words::budget_of(&text[..got])
@@ -66,13 +63,13 @@ fn answer(env: &impl Env, image: &[u8], out: &mut [u8; output::OUTPUT]) -> usize
         return output::output(image, out);
     }
     match budget_given(env) {
-        Budget::Of(most) => {
+        Some(most) => {
             let mut kinds = [0u8; MOST];
             let mut words = [0u64; MOST];
             let n = arguments(env, &mut kinds, &mut words);
             output::output_given(image, most, &kinds[..n], &words[..n], out)
         }
-        Budget::None => 0,
+        None => 0,
     }
 }
 

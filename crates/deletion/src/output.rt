@@ -8,8 +8,6 @@ ghost use Rattle.writer.specs.Putting.{Room, Put};
 ghost use Rattle.deletion.specs.Output.{given, plainly, value_line, value_lines, shown_of, ended_output, stored_output, output_size, Output};
 
 use crate::lines;
-use checker::Checked;
-use image::Judged;
 use machine::Values;
 use step::Outcome;
 
@@ -36,8 +34,8 @@ fn put_value(
     requires { Room out.old at (value_line const_words.now texts.now frames.now kinds.now words.now (first + i)) }
     ensures { Put out.old at (value_line const_words.now texts.now frames.now kinds.now words.now (first + i)) result out.new }
 {
-    let kind = slices::byte_at(kinds, first, i);
-    let word = slices::word_at(words, first, i);
+    let kind = slices::get(kinds, first, i);
+    let word = slices::get(words, first, i);
     let text = constant::text_of(const_words, texts, word);
     let q = state::previous(cells::entry(frames, word as usize) as usize);
     let n = lines::value_line(kind, word, text, q as u64, &mut out[at..]);
@@ -60,22 +58,18 @@ fn put_values(
     ensures { Put out.old at (value_lines const_words.now texts.now frames.now kinds.now words.now n first) result out.new }
 {
     let mut to = at;
-    let mut i = 0;
-    while i < n {
+    for i in 0..n {
         to = put_value(const_words, texts, frames, kinds, words, first, i, out, to);
-        i += 1;
     }
     to
 }
 
 // How many values are written: after 0 those that were returned, after any other answer none.
+#[tactic(auto, unfolding(crate::specs::Output::shown_of))]
 fn shown(o: Outcome, r: Values) -> usize
     ensures { result ≡ shown_of o r }
 {
-    if o.number != 0 {
-        return 0;
-    }
-    r.count
+    if o.number == 0 { r.count } else { 0 }
 }
 
 // ---- the run
@@ -153,22 +147,21 @@ fn put_stored(
         arg_kinds,
         arg_words,
     );
-    if let Checked::Refused(_, _, _) = c {
-        let n = lines::answer_line(machine::check_answer(c), out);
-        return n;
+    match c {
+        Ok(()) => put_run(
+            table,
+            code,
+            const_kinds,
+            const_words,
+            texts,
+            &mut frames,
+            &mut kinds,
+            &mut words,
+            budget,
+            out,
+        ),
+        Err(_) => lines::answer_line(machine::check_answer(c), out),
     }
-    put_run(
-        table,
-        code,
-        const_kinds,
-        const_words,
-        texts,
-        &mut frames,
-        &mut kinds,
-        &mut words,
-        budget,
-        out,
-    )
 }
 
 // ---- the image
@@ -195,21 +188,20 @@ pub(crate) fn output_given(
         &mut const_words,
         &mut texts,
     );
-    if let Judged::Refused(_, _) = j {
-        let size = lines::answer_line(machine::read_answer(j), out);
-        return size;
+    match j {
+        Ok(_) => put_stored(
+            &table,
+            &code,
+            &const_kinds,
+            &const_words,
+            &texts,
+            budget,
+            arg_kinds,
+            arg_words,
+            out,
+        ),
+        Err(_) => lines::answer_line(machine::read_answer(j), out),
     }
-    put_stored(
-        &table,
-        &code,
-        &const_kinds,
-        &const_words,
-        &texts,
-        budget,
-        arg_kinds,
-        arg_words,
-        out,
-    )
 }
 
 // What document 01's program writes.

@@ -2,7 +2,7 @@
 ghost use Rattle.std.specs.Prelude.{◌≡◌, ◌<◌, length};
 ghost use Rattle.figures.specs.Figures.{figure_of};
 ghost use Rattle.figures.specs.Figured.{read_as};
-ghost use Rattle.deletion.specs.Words.{says, argument_of, small_of, allowed_of, budget_of};
+ghost use Rattle.deletion.specs.Words.{says, argument_of, allowed_of, budget_of};
 
 use constant::Value;
 
@@ -10,7 +10,7 @@ use constant::Value;
 fn is_word(word: &[u8], name: &[u8]) -> bool
     ensures { result ≡ says name.now word.now }
 {
-    number::is_same(comparison::compare_texts(word, name))
+    comparison::compare_texts(word, name).is_eq()
 }
 
 // What a word reads as: an integer or a number, or else a string still. To the machine a text is a constant's, so it is told
@@ -23,52 +23,35 @@ fn read(word: &[u8]) -> Value
     figures::figured(Value::String(0), &all, word)
 }
 
+#[tactic(auto, unfolding(crate::specs::Words::argument_of))]
 pub(crate) fn argument_of(word: &[u8]) -> Value
     requires { length word.now < 65536 }
     ensures { result ≡ argument_of word.now }
 {
-    if is_word(word, &[b'n', b'i', b'l']) {
+    if is_word(word, b"nil") {
         return Value::Nil;
     }
-    if is_word(word, &[b't', b'r', b'u', b'e']) {
+    if is_word(word, b"true") {
         return Value::Boolean(true);
     }
-    if is_word(word, &[b'f', b'a', b'l', b's', b'e']) {
+    if is_word(word, b"false") {
         return Value::Boolean(false);
     }
     read(word)
 }
 
 // A budget, or none.
-#[derive(Clone, Copy)]
-pub(crate) enum Budget {
-    Of(u32),
-    None,
-}
-
-fn small(w: u64) -> Budget
-    ensures { result ≡ small_of w }
-{
-    if w < 0x1_0000_0000 {
-        return Budget::Of(w as u32);
-    }
-    Budget::None
-}
-
-fn allowed(v: Value) -> Budget
+#[tactic(auto, unfolding(crate::specs::Words::small_of))]
+fn allowed(v: Value) -> Option<u32>
     ensures { result ≡ allowed_of v }
 {
     match v {
-        Value::Integer(x) => small(integer::to_word(x)),
-        Value::Nil => Budget::None,
-        Value::Boolean(_) => Budget::None,
-        Value::Number(_) => Budget::None,
-        Value::String(_) => Budget::None,
-        Value::Function(_) => Budget::None,
+        Value::Integer(x) => u32::try_from(integer::to_word(x)).ok(),
+        _ => None,
     }
 }
 
-pub(crate) fn budget_of(word: &[u8]) -> Budget
+pub(crate) fn budget_of(word: &[u8]) -> Option<u32>
     requires { length word.now < 65536 }
     ensures { result ≡ budget_of word.now }
 {

@@ -1,6 +1,6 @@
 -- The grammar's forms against the definitions of `figure_of`: a text of the form is read so (`read-text`), and a text that is read has the form
 -- (`figure_shape`). Assumes nothing.
-use Rattle.std.proofs.Common.{◌≡◌, ℕ, ◌<◌, ◌≤◌, Bool, true, false, cond, ◌&&◌, eqb, ◌⊎◌, List, [], ◌∷◌, ◌++◌, length, ℤ, pos, sym, refl, ap, ◌∙◌, subst, inl, inr, append_assoc, arith, eq-eqb, ne_eqb, eqb-true}
+use Rattle.std.proofs.Common.{◌≡◌, ℕ, ◌<◌, ◌≤◌, Bool, true, false, cond, ◌&&◌, eqb, ◌⊎◌, List, [], ◌∷◌, ◌++◌, length, ℤ, pos, sym, refl, ap, ◌∙◌, subst, Option, Some, None, inl, inr, append_assoc, arith, eq-eqb, ne_eqb, eqb-true}
 use mathlib.Core.Bool.{false≢true}
 use lib.Ieee.{minus}
 use Rattle.choices.proofs.Choices.{cond-split, and_left, and_right, and-fails}
@@ -10,7 +10,7 @@ use Rattle.figures.specs.Texts.{first, rest, is_empty, drop_blanks, only_blanks,
 use Rattle.figures.specs.Figures.{fraction, fits_integer, whole, raised, power, exponent, pointed, with_point, without_point, decimal_text, hex_text, unsigned, figure_of}
 use Rattle.figures.specs.Grammar.{Blanks, SignBytes, no_sign, plus_sign, minus_sign, DigitRun, no_digit, next_digit, ExponentPart, exponent_part, OptionalExponent, no_exponent, an_exponent, Literal, decimal_integer, hex_integer, decimal_fraction, Body, decimal_digits, hex_digits, with-point, with_exponent, FigureText, figure_text}
 use Rattle.figures.specs.declared.Figure.{Figure}
-use Rattle.figures.specs.declared.Figure.TheVariants.{Integer, None}
+use Rattle.figures.specs.declared.Figure.TheVariants.{Integer}
 use Rattle.figures.proofs.DigitLaws.{small-append}
 use Rattle.figures.proofs.RunLaws.{no-blank-high, no-x, no-e, is-one_of, no-digit-low, decimal-range, not-empty, some-digit, begins, blanks-first, blanks-only, only-blanks, blanks-drop, blanks-off, run_small, run-first, run-digits, run-after, decimal-off, hex-off}
 use Rattle.figures.proofs.ValueLaws.{net_power, raised_net, net_plain, net_whole, scaled, Yields}
@@ -93,13 +93,13 @@ stops_optional {u = u} (an_exponent e) B = stops-exponent u e
 
 module _ (s : Bool) {u : List ℕ} (B : Blanks u) where
   read_whole : (ds : List ℕ) → 1 ≤ length ds
-      → without_point s ds u ≡ cond (fits_integer s (value_from 10 0 ds)) (Integer (signed s (value_from 10 0 ds))) (fraction s (significand 0 0 ds) (net_power (zeros 0 ds) 0 (pos 0)))
+      → without_point s ds u ≡ cond (fits_integer s (value_from 10 0 ds)) (Some (Integer (signed s (value_from 10 0 ds)))) (fraction s (significand 0 0 ds) (net_power (zeros 0 ds) 0 (pos 0)))
   unfolding without_point whole
   read_whole ds n =
       rw (not-empty ds n, no-e (first u) (let h : first u < 33 = blanks-first B in omega arith), blanks-only B)
-      (ap (λ (e : ℤ). cond (fits_integer s (value_from 10 0 ds)) (Integer (signed s (value_from 10 0 ds))) (fraction s (significand 0 0 ds) e)) (net_whole (zeros 0 ds)))
+      (ap (λ (e : ℤ). cond (fits_integer s (value_from 10 0 ds)) (Some (Integer (signed s (value_from 10 0 ds)))) (fraction s (significand 0 0 ds) e)) (net_whole (zeros 0 ds)))
 
-  read-hex : (x : ℕ) {t ds : List ℕ} → is_x x ≡ true → DigitRun 16 t ds → 1 ≤ length ds → unsigned s (48 ∷ x ∷ (t ++ u)) ≡ Integer (wrap (signed s (value_from 16 0 ds)))
+  read-hex : (x : ℕ) {t ds : List ℕ} → is_x x ≡ true → DigitRun 16 t ds → 1 ≤ length ds → unsigned s (48 ∷ x ∷ (t ++ u)) ≡ Some (Integer (wrap (signed s (value_from 16 0 ds))))
   unfolding unsigned hex_text first rest
   read-hex x {ds = ds} h R n = rw (h, run-digits 16 R u stop, run-after 16 R u stop, not-empty ds n, blanks-only B)
     where
@@ -165,11 +165,11 @@ read-signed B no_sign r h =
 
 pub read-text : {t : List ℕ} {s : Bool} {l : Literal} → FigureText t s l → Yields s l (figure_of t)
 read-text (figure_text {body = body} {after = after} {s = s} {l = l} B M Y A) =
-    subst (λ (f : Figure). Yields s l f) (sym (read-signed B M (body ++ after) (body-first Y after))) (read-body s Y A)
+    subst (λ (f : Option Figure). Yields s l f) (sym (read-signed B M (body ++ after) (body-first Y after))) (read-body s Y A)
 
 -- ---- and what is read is of the form
 
-abbrev pub Something : Figure → Type 0
+abbrev pub Something : Option Figure → Type 0
 Something f = f ≡ None → ⊥
 
 record PowerShape (r : List ℕ) : Type 0 where
@@ -254,8 +254,8 @@ record Shape (r : List ℕ) : Type 0 where
 hex-shape : (s : Bool) (r : List ℕ) → first r ≡ 48 → is_x (first (rest r)) ≡ true → Something (hex_text s (rest (rest r))) → Shape r
 unfolding hex_text
 hex-shape s r e x n =
-    cond-split Something (is_empty (digits 16 q)) None (cond (only_blanks (after_digits 16 q)) (Integer (wrap (signed s (value_from 16 0 (digits 16 q))))) None) n (λ _ k. absurd (k refl))
-    (λ h k. cond-split Something (only_blanks (after_digits 16 q)) (Integer (wrap (signed s (value_from 16 0 (digits 16 q))))) None k (λ i _. made h i) (λ _ m. absurd (m refl)))
+    cond-split Something (is_empty (digits 16 q)) None (cond (only_blanks (after_digits 16 q)) (Some (Integer (wrap (signed s (value_from 16 0 (digits 16 q)))))) None) n (λ _ k. absurd (k refl))
+    (λ h k. cond-split Something (only_blanks (after_digits 16 q)) (Some (Integer (wrap (signed s (value_from 16 0 (digits 16 q)))))) None k (λ i _. made h i) (λ _ m. absurd (m refl)))
   where
     q : List ℕ
     q = rest (rest r)
@@ -312,8 +312,8 @@ plain-shape s r n =
     z : ℕ
     z = zeros 0 ds
 
-    number : Figure
-    number = cond (fits_integer s (value_from 10 0 ds)) (Integer (signed s (value_from 10 0 ds))) (fraction s d (pos z))
+    number : Option Figure
+    number = cond (fits_integer s (value_from 10 0 ds)) (Some (Integer (signed s (value_from 10 0 ds)))) (fraction s d (pos z))
 
     raised_by : is_empty ds ≡ false → TailShape ExponentPart u → Shape r
     raised_by h T = record {

@@ -1,11 +1,13 @@
 -- `fraction` by cases, the sign, and the power of ten as a difference. Assumes nothing.
-use Rattle.std.proofs.Common.{◌≡◌, ℕ, suc, ◌-◌, ◌*◌, ◌^◌, ◌<◌, ◌≤◌, Bool, true, false, ℤ, pos, negsuc, nat_abs, refl, ap, arith, le-ltb, lt-ltb, eq-eqb, ne_eqb, le-leb}
+use Rattle.std.proofs.Common.{◌≡◌, ℕ, suc, ◌+◌, ◌-◌, ◌*◌, ◌^◌, ◌<◌, ◌≤◌, Bool, true, false, ℤ, pos, negsuc, nat_abs, refl, ap, arith, Some, None, le-ltb, lt-ltb, eq-eqb, ne_eqb, le-leb}
 use borrow.Author.Tests.{lt-leb}
 use lib.Ieee.{binary64, round, neg, of_bits, minus}
+use Rattle.choices.proofs.Choices.{by_order}
+use Rattle.std.proofs.lemmas.Bool.Decides.{nat_tests}
 use Rattle.number.proofs.Round.{neg-round}
 use Rattle.figures.specs.Decimal.{tens, tenths, decimal, sign_of}
 use Rattle.figures.specs.Figures.{fraction}
-use Rattle.figures.specs.declared.Figure.TheVariants.{Number, None}
+use Rattle.figures.specs.declared.Figure.TheVariants.{Number}
 
 -- ---- the sign
 
@@ -22,7 +24,7 @@ signed-zero true = refl
 -- ---- by cases
 
 module _ (s : Bool) (d : ℕ) (e : ℤ) where
-  pub fraction-zero : d ≡ 0 → fraction s d e ≡ Number (decimal s 0 (pos 0))
+  pub fraction-zero : d ≡ 0 → fraction s d e ≡ Some (Number (decimal s 0 (pos 0)))
   unfolding fraction
   fraction-zero h = rw (eq-eqb d 0 h)
 
@@ -30,11 +32,7 @@ module _ (s : Bool) (d : ℕ) (e : ℤ) where
   unfolding fraction
   fraction-many h = rw (ne_eqb d 0 (λ z. omega arith), le-ltb d (10 ^ 15) h)
 
-  pub fraction-far : (d ≡ 0 → ⊥) → d < 10 ^ 15 → 22 < nat_abs e → fraction s d e ≡ None
-  unfolding fraction
-  fraction-far z h k = rw (ne_eqb d 0 z, lt-ltb d (10 ^ 15) h, lt-leb (nat_abs e) 22 k)
-
-  pub fraction-near : (d ≡ 0 → ⊥) → d < 10 ^ 15 → nat_abs e ≤ 22 → fraction s d e ≡ Number (decimal s d e)
+  pub fraction-near : (d ≡ 0 → ⊥) → d < 10 ^ 15 → nat_abs e ≤ 22 → fraction s d e ≡ Some (Number (decimal s d e))
   unfolding fraction
   fraction-near z h k = rw (ne_eqb d 0 z, lt-ltb d (10 ^ 15) h, le-leb (nat_abs e) 22 k)
 
@@ -48,3 +46,8 @@ minus-down a b h = rw (lt-leb b a h) (ap negsuc (same a b h))
   where
     same : (a b : ℕ) → a < b → b - suc a ≡ b - a - 1
     same a b h = omega arith
+
+pub minus-size : (a b : ℕ) → nat_abs (minus a b) ≡ (a - b) + (b - a)
+minus-size a b = by_order b a (λ h. rw (minus-up a b h) (omega arith)) (λ h. rw (minus-down a b h) (omega arith))
+
+pub ruleset fraction_terms = (signed_decimal, signed-zero, minus-size, nat_tests)

@@ -1,5 +1,5 @@
 -- For readers: the grammar and the function say the same of every text, and what follows from that; specs/Statements has the statements. Assumes nothing.
-use Rattle.std.proofs.Common.{◌≡◌, ℕ, Bool, List, pos, sym, refl, ◌∙◌, arith}
+use Rattle.std.proofs.Common.{◌≡◌, ℕ, Bool, List, pos, refl, Option, Some, None}
 use lib.Ieee.{Float}
 use Rattle.integer.specs.Wrap.{wrap}
 use Rattle.integer.proofs.WrapLaws.{wrap_in_range, wrap_congruent}
@@ -9,7 +9,7 @@ use Rattle.figures.specs.Figures.{figure_of}
 use Rattle.figures.specs.Grammar.{Literal, decimal_integer, hex_integer, FigureText, Denotes, is_integer, hex_wraps, zero_fits, is_nearest, Reads}
 use Rattle.figures.specs.Statements.{ReadSo, NothingElse, Outside, OutsideNone, IntegerStays, HexModulo, ReadNearest, FractionNearest}
 use Rattle.figures.specs.declared.Figure.{Figure}
-use Rattle.figures.specs.declared.Figure.TheVariants.{Integer, Number, None}
+use Rattle.figures.specs.declared.Figure.TheVariants.{Integer, Number}
 use Rattle.figures.proofs.NearestLaws.{decimal-closest}
 use Rattle.figures.proofs.ValueLaws.{yields_denoted, denotes_yielded}
 use Rattle.figures.proofs.FormLaws.{read-text, Something, TextShape, figure_shape}
@@ -20,28 +20,21 @@ pub reads_figure : ReadSo
 reads_figure t f R = yields_denoted R.figure (figure_of t) (read-text R.form)
 
 pub figure_reads : NothingElse
-figure_reads t f e n = made (figure_shape t some)
+figure_reads t f e = made (figure_shape t some)
   where
     some : Something (figure_of t)
-    some h = n (sym e ∙ h)
+    some h = absurd (cc)
 
     made : TextShape t → Reads t f
-    made T = record { sign = T.sign; literal = T.literal; form = T.form; figure = rw e at (denotes_yielded T.sign T.literal (figure_of t) (read-text T.form) some) }
+    made T = record { sign = T.sign; literal = T.literal; form = T.form; figure = denotes_yielded T.sign T.literal (figure_of t) (read-text T.form) f e }
 
 -- ---- what follows
 
-denotes_some : {s : Bool} {l : Literal} {f : Figure} → Denotes s l f → Something f
-denotes_some (is_integer h) e = let y : ◌≡◌ {A = ℕ} 0 1 = cc in omega arith
-denotes_some hex_wraps e = let y : ◌≡◌ {A = ℕ} 0 1 = cc in omega arith
-denotes_some (zero_fits b h) e = let y : ◌≡◌ {A = ℕ} 0 1 = cc in omega arith
-denotes_some (is_nearest b h) e = let y : ◌≡◌ {A = ℕ} 0 1 = cc in omega arith
-
 pub outside-none : OutsideNone
-outside-none t = (λ o. go o (figure_of t) refl, λ e f R. denotes_some R.figure (sym (reads_figure t f R) ∙ e))
+outside-none t = (λ o. go o (figure_of t) refl, λ e f R. let k = reads_figure t f R in absurd (cc))
   where
-    go : Outside t → (f : Figure) → figure_of t ≡ f → figure_of t ≡ None
-    go o (Integer x) e = absurd (o (Integer x) (figure_reads t (Integer x) e (λ h. let y : ◌≡◌ {A = ℕ} 0 1 = cc in omega arith)))
-    go o (Number x) e = absurd (o (Number x) (figure_reads t (Number x) e (λ h. let y : ◌≡◌ {A = ℕ} 0 1 = cc in omega arith)))
+    go : Outside t → (g : Option Figure) → figure_of t ≡ g → figure_of t ≡ None
+    go o (Some f) e = absurd (o f (figure_reads t f e))
     go o None e = e
 
 pub integer_string : IntegerStays
@@ -58,8 +51,8 @@ hex_string t s v F = record {
 }
 
 nearest_of : {s : Bool} {l : Literal} {f : Figure} → Denotes s l f → (t : List ℕ) (x : Float) → FigureText t s l → f ≡ Number x → (x ≡ decimal s 0 (pos 0) → ⊥) → ReadNearest t x
-nearest_of (is_integer h) t x F e n = absurd (let y : ◌≡◌ {A = ℕ} 0 1 = cc in omega arith)
-nearest_of hex_wraps t x F e n = absurd (let y : ◌≡◌ {A = ℕ} 0 1 = cc in omega arith)
+nearest_of (is_integer h) t x F e n = absurd (cc)
+nearest_of hex_wraps t x F e n = absurd (cc)
 nearest_of (zero_fits b h) t x F e n = absurd (n (cc))
 nearest_of {s} {l} (is_nearest {d = d} {e = g} b I) t x F e n =
     let k : x ≡ decimal s d g = cc in

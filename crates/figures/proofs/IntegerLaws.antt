@@ -1,19 +1,12 @@
 -- An integer of a sign and a size: where the size was taken modulo 2 ^ 64 nothing is changed by it, and in range nothing is changed by wrapping. Assumes nothing.
 use Rattle.std.proofs.Common.{◌≡◌, ℕ, zero, suc, ◌+◌, ◌%◌, ◌^◌, ◌<◌, Bool, true, false, ℤ, pos, negsuc, neg_ℤ, sym, refl, ap, ◌∙◌, arith, w64, to_z, ltb-true, leb-true}
-use native.Mathlib.Nat.{mod-mod, zero-mod}
+use native.Mathlib.Nat.{mod-mod}
 use lib.Signed.{mag}
 use mir.ValLaws.{to_z-of_z}
 use Rattle.integer.specs.Wrap.{residue, wrap}
-use Rattle.integer.proofs.Residues.{pow64, residue-lt, rep, rep_neg, unique, bits_are, answer}
-use Rattle.integer.proofs.Words.{back}
+use Rattle.integer.proofs.Residues.{pow64, residue-lt, rep, rep_neg, unique, bits_are}
 use Rattle.number.specs.Exact.{signed}
 use Rattle.figures.specs.Figures.{fits_integer}
-
-pub word-plain : (r : ℤ) (v : ℕ) → v < 2 ^ 64 → r ≡ to_z w64 v → back r ≡ wrap (pos v)
-word-plain r v h e = answer r v (pos v) h e refl
-
-pub word-turned : (r : ℤ) (v w : ℕ) → w < 2 ^ 64 → r ≡ to_z w64 w → (w + v) % 2 ^ 64 ≡ 0 → back r ≡ wrap (neg_ℤ (pos v))
-word-turned r v w h e k = answer r w (neg_ℤ (pos v)) h e (rep_neg (2 ^ 64) pow64 v w (pos v) refl (k ∙ sym (zero-mod (2 ^ 64))))
 
 turned : (v : ℕ) → (residue (2 ^ 64) (neg_ℤ (pos v)) + v) % 2 ^ 64 ≡ 0 % 2 ^ 64
 turned zero = refl

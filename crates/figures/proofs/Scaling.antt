@@ -1,16 +1,15 @@
 -- A product or a quotient of two numbers that are known as fractions is the fraction's rounding, zero too (lib.Ieee.Positive has it above zero);
 -- a whole number below 2 ^ 53 is a number. Assumes nothing.
-use Rattle.std.proofs.Common.{◌≡◌, ℕ, zero, suc, ◌+◌, ◌*◌, ◌^◌, ◌<◌, ◌≤◌, Bool, true, false, cond, eqb, ℤ, pos, negsuc, sym, ap, ◌∙◌, subst, true≢false, le_trans, lt_of_lt_of_le, le_of_lt, lt_irrefl, zero-lt-suc, mul-pos, pow-suc, zero-mul, mul-one, add-one, arith, lit≤, w64, to_z, lt-ltb}
+use Rattle.std.proofs.Common.{◌≡◌, ℕ, zero, suc, ◌-◌, ◌*◌, ◌^◌, ◌<◌, ◌≤◌, Bool, true, false, cond, eqb, pos, sym, ap, ◌∙◌, subst, true≢false, le_trans, le_of_lt, lt_irrefl, zero-lt-suc, mul-pos, pow-suc, zero-mul, mul-one, arith, lit≤}
 use native.Mathlib.Nat.{mul-mul-mul_comm}
 use lib.Dec.{eqb-suc-zero}
-use lib.Ieee.{Float, nan, inf, fin, Format, binary64, up, down, round, mul, div, of_int}
+use lib.Ieee.{Float, nan, inf, fin, Format, binary64, up, down, round, mul, div, of_int, minus}
 use lib.Ieee.Fits.{up_pos, down_pos}
 use lib.Ieee.Exact.{HasValue}
 use lib.Ieee.Scale.{round_same}
 use lib.Ieee.Back.{round_whole}
-use Rattle.integer.proofs.Words.{back}
 use Rattle.figures.specs.Decimal.{decimal}
-use Rattle.figures.proofs.IntegerLaws.{word-plain, wrap-fits}
+use Rattle.figures.proofs.FractionLaws.{minus-up, minus-down}
 
 pub product : (f : Format) (x y : Float) (a c b d : ℕ) → 0 < c → 0 < d → HasValue x false a c → HasValue y false b d → mul f x y ≡ round f false (a * b) (c * d)
 unfolding mul
@@ -55,15 +54,10 @@ quotient f (fin false m e) (fin false (suc n) g) a c b d C B D h k =
 small : (d : ℕ) → d < 10 ^ 15 → d ≤ 2 ^ 53
 small d h = le_trans (le_of_lt h) (lit≤ tt)
 
--- the number made of the word d, which is the integer d
-whole : (d : ℕ) (x : ℤ) (a : Float) → d < 10 ^ 15 → x ≡ to_z w64 d → a ≡ of_int binary64 (back x) → HasValue a false d 1
+-- is a number
+whole : (d : ℕ) → d < 10 ^ 15 → HasValue (of_int binary64 (pos d)) false d 1
 unfolding of_int
-whole d x a h e k =
-    subst (λ (v : Float). HasValue v false d 1) (sym (k ∙ ap (of_int binary64) (word-plain x d (lt_of_lt_of_le (below d h) (lit≤ tt)) e ∙ wrap-fits false d (lt-ltb d (2 ^ 63) (below d h)))))
-    (round_whole binary64 false d (small d h))
-  where
-    below : (d : ℕ) → d < 10 ^ 15 → d < 2 ^ 63
-    below d h = omega arith
+whole d h = round_whole binary64 false d (small d h)
 
 pub ten-pos : (k : ℕ) → 0 < 10 ^ k
 ten-pos zero = zero-lt-suc 0
@@ -71,13 +65,17 @@ ten-pos (suc k) = subst (λ (z : ℕ). 0 < z) (sym (pow-suc 10 k)) (mul-pos (ten
 
 -- ---- the two ways
 
-module _ (d k : ℕ) (x : ℤ) (a t : Float) (h : d < 10 ^ 15) (e : x ≡ to_z w64 d) (v : a ≡ of_int binary64 (back x)) where
-  pub multiplied : HasValue t false (10 ^ k) 1 → mul binary64 a t ≡ decimal false d (pos k)
+module _ (d a b : ℕ) (t : Float) (h : d < 10 ^ 15) where
+  pub multiplied : b ≤ a → HasValue t false (10 ^ (a - b)) 1 → mul binary64 (of_int binary64 (pos d)) t ≡ decimal false d (minus a b)
   unfolding decimal
-  multiplied w = product binary64 a t d 1 (10 ^ k) 1 (zero-lt-suc 0) (zero-lt-suc 0) (whole d x a h e v) w
+  multiplied n w = rw (minus-up a b n) (product binary64 (of_int binary64 (pos d)) t d 1 (10 ^ (a - b)) 1 (zero-lt-suc 0) (zero-lt-suc 0) (whole d h) w)
 
-  pub divided : HasValue t false (10 ^ (k + 1)) 1 → div binary64 a t ≡ decimal false d (negsuc k)
+  pub divided : a < b → HasValue t false (10 ^ (b - a)) 1 → div binary64 (of_int binary64 (pos d)) t ≡ decimal false d (minus a b)
   unfolding decimal
-  divided w =
-      quotient binary64 a t d 1 (10 ^ suc k) 1 (zero-lt-suc 0) (ten-pos (suc k)) (zero-lt-suc 0) (whole d x a h e v) (rw add-one at w)
-      ∙ ap (λ (z : ℕ). round binary64 false (d * 1) z) (mul-one (10 ^ suc k))
+  divided n w =
+      rw (minus-down a b n, ← less a b n)
+      (quotient binary64 (of_int binary64 (pos d)) t d 1 (10 ^ (b - a)) 1 (zero-lt-suc 0) (ten-pos (b - a)) (zero-lt-suc 0) (whole d h) w
+      ∙ ap (λ (z : ℕ). round binary64 false (d * 1) z) (mul-one (10 ^ (b - a))))
+    where
+      less : (a b : ℕ) → a < b → b - a ≡ suc (b - a - 1)
+      less a b n = omega arith

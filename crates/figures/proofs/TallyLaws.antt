@@ -1,20 +1,12 @@
--- The run of digits: one digit more, in the code's terms; and that the two values, stopped at 2 ^ 63 + 1, tell what the digits' own values tell. Assumes nothing.
-use Rattle.std.proofs.Common.{◌≡◌, ℕ, zero, suc, ◌+◌, ◌*◌, ◌^◌, ◌≤◌, min, Bool, true, false, cond, eqb, List, [], ◌∷◌, ◌++◌, length, sym, refl, ap, ◌∙◌, add-zero, add_assoc, add-one, arith, eq-eqb, ne_eqb}
+-- The run of digits: one digit more; and that the two values, stopped at 2 ^ 63 + 1, tell what the digits' own values tell. Assumes nothing.
+use Rattle.std.proofs.Common.{◌≡◌, ℕ, zero, suc, ◌+◌, ◌*◌, ◌≤◌, min, Bool, true, false, cond, eqb, List, [], ◌∷◌, ◌++◌, length, sym, refl, ap, ◌∙◌, add-zero, add_assoc, add-one, arith}
 use lib.Dec.{eqb-suc-zero}
 use Rattle.figures.specs.Texts.{value_from, significand, zeros}
 use Rattle.figures.specs.Steps.{stop_at, one_more, tally}
 use Rattle.figures.specs.declared.Tally.{Tally}
+use Rattle.figures.proofs.TextLaws.{digit_steps}
 
 -- ---- one digit more
-
-module _ (t : Tally) (c v : ℕ) (e : v ≡ min (t.value * 10 + c) (2 ^ 63 + 1)) where
-  pub same-zero : c ≡ 0 → ◌≡◌ {A = Tally} (record { value = v; kept = t.kept; zeros = t.zeros + 1; count = t.count + 1 }) (one_more t c)
-  unfolding one_more
-  same-zero h = rw (eq-eqb c 0 h, e)
-
-  pub same_some : (c ≡ 0 → ⊥) → ◌≡◌ {A = Tally} (record { value = v; kept = v; zeros = 0; count = t.count + 1 }) (one_more t c)
-  unfolding one_more
-  same_some h = rw (ne_eqb c 0 h, e)
 
 pub tally-none : (t : Tally) (l : List ℕ) → l ≡ [] → tally t l ≡ t
 unfolding tally
@@ -73,3 +65,5 @@ tally-kept t v d (zero ∷ ds) e f = tally-kept (one_more t zero) (v * 10) d ds 
 tally-kept t v d (suc c ∷ ds) e f =
     tally-kept (one_more t (suc c)) (v * 10 + suc c) (v * 10 + suc c) ds (stop v t.value (suc c) e)
     (ap (λ (b : Bool). cond b t.kept (min (t.value * 10 + suc c) stop_at)) (eqb-suc-zero c) ∙ stop v t.value (suc c) e)
+
+pub ruleset scan_terms = (digit_steps, tally-none, tally-some, more-zeros, more-count)

@@ -1,89 +1,110 @@
--- A text's parts by places: what a loop finds at a place is what the recursion on the rest of the text says. Assumes nothing.
-use Rattle.std.proofs.Common.{◌≡◌, ℕ, zero, suc, ◌+◌, ◌-◌, ◌*◌, ◌%◌, ◌^◌, ◌<◌, ◌≤◌, Bool, true, false, cond, ◌&&◌, eqb, ltb, leb, List, [], ◌∷◌, length, get_or, drop, sym, refl, ap, ◌∙◌, add-zero, mod-eq_of_lt, arith, drop_of_length-le, drop-cons, le-ltb, lt-ltb, leb-true}
-use lib.Seq.{drop-nil}
-use Rattle.choices.proofs.Choices.{and_left}
-use lib.Dec.{leb-zero, leb-suc-zero, leb-suc-suc, eqb-suc-zero}
-use Rattle.figures.specs.Texts.{first, rest, is_empty, blank, drop_blanks, digit, digits, after_digits, value_from, zeros}
+-- A text's parts as the code finds them: the byte at the front of a slice, and the slice behind it. Assumes nothing.
+use Rattle.std.proofs.Common.{◌≡◌, ℕ, zero, suc, ◌+◌, ◌-◌, ◌*◌, ◌%◌, ◌^◌, ◌<◌, ◌≤◌, Bool, true, false, cond, ◌&&◌, ◌||◌, eqb, ltb, leb, List, [], ◌∷◌, length, get_or, take, drop, Option, Some, None, sym, refl, ap, ◌∙◌, le_of_eq, length-drop, take_all, mod-eq_of_lt, arith, leb-true}
+use Rattle.std.specs.List.{prefix_len}
+use Rattle.std.proofs.lemmas.Bool.Decides.{nat_tests}
+use Rattle.std.specs.Char.{digit_value}
+use Rattle.choices.proofs.Choices.{by_bool, and_left}
+use lib.Dec.{eqb-suc-zero}
+use Rattle.figures.specs.Texts.{first, rest, is_empty, blank, drop_blanks, only_blanks, is_minus, behind_sign, digit, digit_in, digits, after_digits, value_from, zeros}
 
 -- ---- the first byte and the rest
 
-pub first-none : (l : List ℕ) → length l ≡ 0 → 0 ≡ first l
+pub first-is : (l : List ℕ) → get_or l 0 0 ≡ first l
 unfolding first
-first-none [] h = refl
-first-none (b ∷ l) h = absurd (omega arith)
+first-is [] = refl
+first-is (b ∷ l) = refl
 
-pub first_some : (l : List ℕ) → get_or l 0 0 ≡ first l
-unfolding first
-first_some [] = refl
-first_some (b ∷ l) = refl
+pub second-is : (l : List ℕ) → get_or l 1 0 ≡ first (rest l)
+unfolding first rest
+second-is [] = refl
+second-is (b ∷ []) = refl
+second-is (b ∷ c ∷ l) = refl
 
-pub rest-is : (l : List ℕ) → rest l ≡ drop 1 l
+rest-drop : (l : List ℕ) → rest l ≡ drop 1 l
 unfolding rest
-rest-is [] = refl
-rest-is (b ∷ l) = refl
+rest-drop [] = refl
+rest-drop (b ∷ l) = refl
 
-pub rest-twice : (l : List ℕ) → rest (rest l) ≡ drop 2 l
+-- what a slice's pattern leaves behind the first byte, and behind the first two
+abbrev pub behind : ℕ → List ℕ → List ℕ
+behind n l = take (length l - n) (drop n l)
+
+behind-is : (n : ℕ) (l : List ℕ) → behind n l ≡ drop n l
+behind-is n l = take_all (length l - n) (drop n l) (le_of_eq (length-drop n l))
+
+pub rest-is : (l : List ℕ) → behind 1 l ≡ rest l
+rest-is l = behind-is 1 l ∙ sym (rest-drop l)
+
+pub rest-twice : (l : List ℕ) → behind 2 l ≡ rest (rest l)
 unfolding rest
-rest-twice [] = refl
-rest-twice (b ∷ []) = refl
-rest-twice (b ∷ c ∷ l) = refl
+rest-twice [] = behind-is 2 []
+rest-twice (b ∷ []) = behind-is 2 (b ∷ [])
+rest-twice (b ∷ c ∷ l) = behind-is 2 (b ∷ c ∷ l)
 
-pub empty-drop : (n : ℕ) (l : List ℕ) → is_empty (drop n l) ≡ leb (length l) n
+pub shorter : (n : ℕ) (l : List ℕ) → length (behind n l) ≡ length l - n
+shorter n l = ap length (behind-is n l) ∙ length-drop n l
+
+pub empty-length : (l : List ℕ) → is_empty l ≡ eqb (length l) 0
 unfolding is_empty
-empty-drop n [] = rw (drop-nil n) (sym (leb-zero n))
-empty-drop zero (b ∷ l) = sym (leb-suc-zero (length l))
-empty-drop (suc n) (b ∷ l) = empty-drop n l ∙ sym (leb-suc-suc (length l) n)
+empty-length [] = refl
+empty-length (b ∷ l) = sym (eqb-suc-zero (length l))
 
 -- ---- blanks
 
-module _ (l : List ℕ) (i : ℕ) where
-  pub blank-stop : i < length l → blank (get_or l i 0) ≡ false → drop i l ≡ drop_blanks (drop i l)
-  unfolding drop_blanks
-  blank-stop h e = rw (drop-cons l i 0 h, e)
+pub blanks-counted : (l : List ℕ) → drop (prefix_len blank l) l ≡ drop_blanks l
+unfolding drop_blanks
+blanks-counted [] = refl
+blanks-counted (b ∷ l) = by_bool (blank b) (λ h. rw (h, one-more (prefix_len blank l)) (blanks-counted l)) (λ h. rw h)
+  where
+    one-more : (n : ℕ) → 1 + n ≡ suc n
+    one-more n = omega arith
 
-  pub blank-next : i < length l → blank (get_or l i 0) ≡ true → drop_blanks (drop i l) ≡ drop_blanks (drop (suc i) l)
-  unfolding drop_blanks
-  blank-next h e = rw (drop-cons l i 0 h, e)
+pub blanks-none : (l r : List ℕ) → r ≡ drop_blanks l → eqb (length r) 0 ≡ only_blanks l
+unfolding only_blanks
+blanks-none l r e = sym (empty-length r) ∙ ap is_empty e
 
-  pub blank-end : length l ≤ i → drop i l ≡ drop_blanks (drop i l)
-  unfolding drop_blanks
-  blank-end h = rw (drop_of_length-le l h)
+pub blanks-fit : (l : List ℕ) → length (drop_blanks l) ≤ length l
+blanks-fit l = rw (← blanks-counted l, length-drop (prefix_len blank l) l) (omega arith)
+
+-- ---- the sign
+
+pub by_sign : {X : Type 0} (f : Bool → List ℕ → X) (l : List ℕ)
+    → cond (eqb (first l) 45) (f true (rest l)) (cond (eqb (first l) 43) (f false (rest l)) (f false l)) ≡ f (is_minus l) (behind_sign l)
+by_sign f l =
+    rw (← first-is l, rest-drop l)
+    (by_bool (eqb (get_or l 0 0) 45) (λ h. rw h) (λ h. by_bool (eqb (get_or l 0 0) 43) (λ k. rw (h, k)) (λ k. rw (h, k))))
+
+pub sign-fits : (l : List ℕ) → length (behind_sign l) ≤ length l
+sign-fits l = by_bool (eqb (get_or l 0 0) 45 || eqb (get_or l 0 0) 43) (λ h. rw (h, length-drop 1 l) (omega arith)) (λ h. rw h (omega arith))
 
 -- ---- digits
 
 pub at_least : (n b last : ℕ) → leb n b && leb b last ≡ true → n ≤ b
 at_least n b last h = leb-true n b (and_left (leb n b) (leb b last) h)
 
-module _ (b : ℕ) where
-  pub digit-plain : leb 48 b && leb b 57 ≡ true → b - 48 ≡ digit b
-  unfolding digit
-  digit-plain h = rw h
+-- std's digits go on to base 36
+pub digit-is : (base b : ℕ) → base ≤ 16 → digit_in base b ≡ cond (ltb (digit_value b) base) (Some (digit_value b)) None
+unfolding digit
+digit-is base b h = grind (arith, nat_tests)
 
-  pub digit-lower : leb 48 b && leb b 57 ≡ false → leb 97 b && leb b 102 ≡ true → b - 87 ≡ digit b
-  unfolding digit
-  digit-lower h k = rw (h, k)
+pub digits-next : (base : ℕ) (l : List ℕ) (c : ℕ) → 1 ≤ length l → digit_in base (get_or l 0 0) ≡ Some c
+    → (digits base l ≡ c ∷ digits base (behind 1 l)) × (after_digits base l ≡ after_digits base (behind 1 l))
+unfolding digits after_digits rest
+digits-next base [] c h e = absurd (omega arith)
+digits-next base (b ∷ r) c h e =
+    rw (rest-is (b ∷ r))
+    (by_bool (ltb (digit b) base) (λ t. let k : Some (digit b) ≡ Some c = rw t at e in rw t ((cc), refl)) (λ t. let k : ◌≡◌ {A = Option ℕ} None (Some c) = rw t at e in absurd (cc)))
 
-  pub digit_upper : leb 48 b && leb b 57 ≡ false → leb 97 b && leb b 102 ≡ false → leb 65 b && leb b 70 ≡ true → b - 55 ≡ digit b
-  unfolding digit
-  digit_upper h k m = rw (h, k, m)
+pub digits-stop : (base : ℕ) (l : List ℕ) → 1 ≤ length l → digit_in base (get_or l 0 0) ≡ None → (digits base l ≡ []) × (after_digits base l ≡ l)
+unfolding digits after_digits
+digits-stop base [] h e = absurd (omega arith)
+digits-stop base (b ∷ r) h e =
+    by_bool (ltb (digit b) base) (λ t. let k : Some (digit b) ≡ None = rw t at e in absurd (cc)) (λ t. rw t (refl, refl))
 
-  pub digit-none : leb 48 b && leb b 57 ≡ false → leb 97 b && leb b 102 ≡ false → leb 65 b && leb b 70 ≡ false → 16 ≡ digit b
-  unfolding digit
-  digit-none h k m = rw (h, k, m)
-
--- c is the digit at place i, as the loop has read it
-module _ (base : ℕ) (l : List ℕ) (i c : ℕ) (e : c ≡ digit (get_or l i 0)) where
-  pub digits-stop : i < length l → base ≤ c → digits base (drop i l) ≡ []
-  unfolding digits
-  digits-stop h k = rw (drop-cons l i 0 h, ← e, le-ltb c base k)
-
-  pub digits-next : i < length l → c < base → digits base (drop i l) ≡ c ∷ digits base (drop (suc i) l)
-  unfolding digits
-  digits-next h k = rw (drop-cons l i 0 h, ← e, lt-ltb c base k)
-
-pub digits-end : (base : ℕ) (l : List ℕ) (i : ℕ) → length l ≤ i → digits base (drop i l) ≡ []
-unfolding digits
-digits-end base l i h = rw (drop_of_length-le l h)
+pub digits-end : (base : ℕ) (l : List ℕ) → length l < 1 → (digits base l ≡ []) × (after_digits base l ≡ l)
+unfolding digits after_digits
+digits-end base [] h = (refl, refl)
+digits-end base (b ∷ r) h = absurd (omega arith)
 
 -- a hexadecimal value modulo 2 ^ 64
 
@@ -95,54 +116,34 @@ unfolding value_from
 value_mod a b [] e = e
 value_mod a b (c ∷ ds) e = value_mod (a * 16 + c) (b * 16 + c) ds (mod_step a b c e)
 
-pub hex-value-next : (v c : ℕ) (l r : List ℕ) → l ≡ c ∷ r → value_from 16 (v % 2 ^ 60 * 16 + c) r % 2 ^ 64 ≡ value_from 16 v l % 2 ^ 64
+pub hex-value-next : (v w c : ℕ) (l r : List ℕ) → l ≡ c ∷ r → w % 2 ^ 64 ≡ (v * 16 + c) % 2 ^ 64 → value_from 16 w r % 2 ^ 64 ≡ value_from 16 v l % 2 ^ 64
 unfolding value_from
-hex-value-next v c l r e = rw e (value_mod (v % 2 ^ 60 * 16 + c) (v * 16 + c) r (cut v c))
-  where
-    cut : (v c : ℕ) → (v % 2 ^ 60 * 16 + c) % 2 ^ 64 ≡ (v * 16 + c) % 2 ^ 64
-    cut v c = omega arith
+hex-value-next v w c l r e h = rw e (value_mod w (v * 16 + c) r h)
 
 pub hex-value-end : (v : ℕ) (l : List ℕ) → l ≡ [] → v < 2 ^ 64 → v ≡ value_from 16 v l % 2 ^ 64
 unfolding value_from
 hex-value-end v l e h = rw e (sym (mod-eq_of_lt h))
 
--- how many digits
-
-pub counted : (i : ℕ) (l : List ℕ) (n : ℕ) → l ≡ [] → i + length l ≡ n → i ≡ n
-counted i l n e h = sym (ap (λ (x : List ℕ). i + length x) e ∙ add-zero i) ∙ h
-
-pub counted-on : (i c : ℕ) (l r : List ℕ) (n : ℕ) → l ≡ c ∷ r → i + length l ≡ n → suc i + length r ≡ n
-counted-on i c l r n e h = step i (length r) ∙ sym (ap (λ (x : List ℕ). i + length x) e) ∙ h
-  where
-    step : (i m : ℕ) → suc i + m ≡ i + suc m
-    step i m = omega arith
-
-pub empty-length : (l : List ℕ) → is_empty l ≡ eqb (length l) 0
-unfolding is_empty
-empty-length [] = refl
-empty-length (b ∷ l) = sym (eqb-suc-zero (length l))
-
-pub after-digits : (base : ℕ) (l : List ℕ) → drop (length (digits base l)) l ≡ after_digits base l
+pub digits-fit : (base : ℕ) (l : List ℕ) → length (digits base l) + length (after_digits base l) ≡ length l
 unfolding digits after_digits
-after-digits base [] = refl
-after-digits base (b ∷ l) = go (ltb (digit b) base) (after-digits base l)
-  where
-    go : (t : Bool) → drop (length (digits base l)) l ≡ after_digits base l
-        → drop (length (cond t (digit b ∷ digits base l) [])) (b ∷ l) ≡ cond t (after_digits base l) (b ∷ l)
-    go true h = h
-    go false h = refl
-
-pub digits-fit : (base : ℕ) (l : List ℕ) → length (digits base l) ≤ length l
-unfolding digits
-digits-fit base [] = omega arith
-digits-fit base (b ∷ l) = go (ltb (digit b) base) (digits-fit base l)
-  where
-    go : (t : Bool) → length (digits base l) ≤ length l → length (cond t (digit b ∷ digits base l) []) ≤ suc (length l)
-    go true h = omega arith
-    go false h = omega arith
+digits-fit base [] = refl
+digits-fit base (b ∷ l) = by_bool (ltb (digit b) base) (λ t. rw t (omega (arith, digits-fit base l))) (λ t. rw t (omega arith))
 
 pub zeros-fit : (z : ℕ) (ds : List ℕ) → zeros z ds ≤ z + length ds
 unfolding zeros
 zeros-fit z [] = omega arith
 zeros-fit z (zero ∷ ds) = let h = zeros-fit (suc z) ds in omega arith
 zeros-fit z (suc c ∷ ds) = let h = zeros-fit 0 ds in omega arith
+
+-- ---- what each function is checked with
+
+-- a slice's pattern as the definitions have it
+pub ruleset fronts = (first-is, second-is, rest-is, rest-twice, nat_tests)
+
+pub ruleset blank_terms = (blanks-none, nat_tests)
+
+pub ruleset digit_terms = (digit-is, nat_tests)
+
+pub ruleset digit_steps = (digits-next, digits-stop, digits-end, shorter)
+
+pub ruleset hex_steps = (digit_steps, hex-value-next, hex-value-end)

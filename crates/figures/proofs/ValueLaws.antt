@@ -1,6 +1,6 @@
 -- A value as d × 10 ^ e: without a trailing zero there is one such d and one such e (`only-value`), and `fraction` is asked for them. So what `figure_of` yields
 -- for a literal is what the grammar says that it denotes (`yields_denoted`, `denotes_yielded`). Assumes nothing.
-use Rattle.std.proofs.Common.{◌≡◌, ℕ, zero, suc, ◌+◌, ◌-◌, ◌*◌, ◌%◌, ◌^◌, ◌<◌, ◌≤◌, Bool, true, false, cond, ◌&&◌, eqb, ltb, leb, List, ℤ, pos, negsuc, nat_abs, sym, refl, ap, ◌∙◌, ap₂, inl, inr, add-zero, zero-lt-suc, mul_assoc, add_comm, mul-pos, pow-suc, zero-add, zero-mul, mul-one, arith, pow-add, ltb-true, eqb-true, leb-true}
+use Rattle.std.proofs.Common.{◌≡◌, ℕ, zero, suc, ◌+◌, ◌-◌, ◌*◌, ◌%◌, ◌^◌, ◌<◌, ◌≤◌, Bool, true, false, cond, ◌&&◌, eqb, ltb, leb, List, ℤ, pos, negsuc, nat_abs, sym, refl, ap, ◌∙◌, ap₂, subst, Option, Some, None, inl, inr, add-zero, zero-lt-suc, mul_assoc, add_comm, mul-pos, pow-suc, zero-add, zero-mul, mul-one, arith, pow-add, ltb-true, eqb-true, leb-true}
 use native.Mathlib.Nat.{mul-mod_left, eq_of_mul-eq-mul_right}
 use borrow.Author.Tests.{eqb-false}
 use lib.Ieee.{minus}
@@ -12,7 +12,7 @@ use Rattle.figures.specs.Texts.{value_from, significand, zeros}
 use Rattle.figures.specs.Figures.{fraction, fits_integer, raised}
 use Rattle.figures.specs.Grammar.{Literal, decimal_integer, hex_integer, decimal_fraction, ValueIs, InSet, ByFraction, a_fraction, too_large, Denotes, is_integer, hex_wraps, zero_fits, is_nearest}
 use Rattle.figures.specs.declared.Figure.{Figure}
-use Rattle.figures.specs.declared.Figure.TheVariants.{Integer, Number, None}
+use Rattle.figures.specs.declared.Figure.TheVariants.{Integer, Number}
 use Rattle.figures.proofs.Scaling.{ten-pos}
 use Rattle.figures.proofs.FractionLaws.{fraction-zero, fraction-near, minus-up, minus-down}
 use Rattle.figures.proofs.DigitLaws.{Small, Bare, digits_value, no_trailing_zero}
@@ -144,18 +144,25 @@ net_whole z = sym (minus-up z 0 (omega arith) ∙ ap pos (less z)) ∙ net_plain
     less : (z : ℕ) → z - 0 ≡ z
     less z = omega arith
 
+-- a figure that is read is what the literal denotes
+abbrev pub Denoted : Bool → Literal → Option Figure → Type 0
+Denoted s l o = (f : Figure) → o ≡ Some f → Denotes s l f
+
+denoted : {s : Bool} {l : Literal} {g : Figure} → Denotes s l g → Denoted s l (Some g)
+denoted {s} {l} {g} D f e = let h : g ≡ f = cc in subst (Denotes s l) h D
+
+none_denoted : {s : Bool} {l : Literal} → Denoted s l None
+none_denoted f e = absurd (cc)
+
 -- what `fraction` reads is of the set
 fraction_denotes : (s : Bool) (d : ℕ) (e : ℤ) (l : Literal) → ByFraction s l → (d ≡ 0 → ValueIs l 0 (pos 0)) → ((d ≡ 0 → ⊥) → ValueIs l d e × (d % 10 ≡ 0 → ⊥))
-    → (fraction s d e ≡ None → ⊥) → Denotes s l (fraction s d e)
+    → Denoted s l (fraction s d e)
 unfolding fraction
 fraction_denotes s d e l A none some =
-    cond_cases Unless (eqb d 0) (Number (decimal s 0 (pos 0))) (cond (ltb d (10 ^ 15) && leb (nat_abs e) 22) (Number (decimal s d e)) None)
-    (λ h _. zero_fits A (none (eqb-true d 0 h)))
-    (λ h. cond_cases Unless (ltb d (10 ^ 15) && leb (nat_abs e) 22) (Number (decimal s d e)) None (λ k _. is_nearest A (in_set (some (eqb-false d 0 h)) k)) (λ k n. absurd (n refl)))
+    cond_cases (Denoted s l) (eqb d 0) (Some (Number (decimal s 0 (pos 0)))) (cond (ltb d (10 ^ 15) && leb (nat_abs e) 22) (Some (Number (decimal s d e))) None)
+    (λ h. denoted (zero_fits A (none (eqb-true d 0 h))))
+    (λ h. cond_cases (Denoted s l) (ltb d (10 ^ 15) && leb (nat_abs e) 22) (Some (Number (decimal s d e))) None (λ k. denoted (is_nearest A (in_set (some (eqb-false d 0 h)) k))) (λ k. none_denoted))
   where
-    Unless : Figure → Type 0
-    Unless f = (f ≡ None → ⊥) → Denotes s l f
-
     in_set : ValueIs l d e × (d % 10 ≡ 0 → ⊥) → ltb d (10 ^ 15) && leb (nat_abs e) 22 ≡ true → InSet l d e
     in_set v k = record {
       same_value = v.0;
@@ -166,12 +173,12 @@ fraction_denotes s d e l A none some =
 
 -- Digits with d × 10 ^ z their value. What they say with p places and the exponent x is of the set as d' × 10 ^ e exactly where `fraction` reads d × 10 ^ net_power z p x so.
 module _ (s : Bool) (v d z : ℕ) (W : v ≡ d * 10 ^ z) (B : Bare d) (p : ℕ) (x : ℤ) where
-  read-zero : ValueIs (decimal_fraction v p x) 0 (pos 0) → fraction s d (net_power z p x) ≡ Number (decimal s 0 (pos 0))
+  read-zero : ValueIs (decimal_fraction v p x) 0 (pos 0) → fraction s d (net_power z p x) ≡ Some (Number (decimal s 0 (pos 0)))
   read-zero h =
       let n : v ≡ 0 = zero_factor v (tens x) (tens-pos x) (no-product v (tens x) (tenths x * 10 ^ p) h) in
       fraction-zero s d (net_power z p x) (zero_factor d (10 ^ z) (ten-pos z) (sym W ∙ n))
 
-  read_set : (d' : ℕ) (e : ℤ) → InSet (decimal_fraction v p x) d' e → fraction s d (net_power z p x) ≡ Number (decimal s d' e)
+  read_set : (d' : ℕ) (e : ℤ) → InSet (decimal_fraction v p x) d' e → fraction s d (net_power z p x) ≡ Some (Number (decimal s d' e))
   read_set d' e I = go B
     where
       some : d' ≡ 0 → ⊥
@@ -180,7 +187,7 @@ module _ (s : Bool) (v d z : ℕ) (W : v ≡ d * 10 ^ z) (B : Bare d) (p : ℕ) 
       value : d * 10 ^ z * tens x * tenths e ≡ d' * tens e * (tenths x * 10 ^ p)
       value = ap (λ (n : ℕ). n * tens x * tenths e) (sym W) ∙ I.same_value
 
-      go : Bare d → fraction s d (net_power z p x) ≡ Number (decimal s d' e)
+      go : Bare d → fraction s d (net_power z p x) ≡ Some (Number (decimal s d' e))
       go (inl h) =
           absurd
           (some (zero_factor d' (10 ^ (rise e + (fall x + p))) (ten-pos (rise e + (fall x + p)))
@@ -191,7 +198,7 @@ module _ (s : Bool) (v d z : ℕ) (W : v ≡ d * 10 ^ z) (B : Bare d) (p : ℕ) 
 
   -- and nothing else is read
   value_read : (l : Literal) → ByFraction s l → ((d' : ℕ) (e : ℤ) → ValueIs (decimal_fraction v p x) d' e → ValueIs l d' e)
-      → (fraction s d (net_power z p x) ≡ None → ⊥) → Denotes s l (fraction s d (net_power z p x))
+      → Denoted s l (fraction s d (net_power z p x))
   value_read l A same =
       fraction_denotes s d (net_power z p x) l A (λ h. same 0 (pos 0) (nothing h))
       (λ n. (same d (net_power z p x) (ap (λ (y : ℕ). y * tens x * tenths (net_power z p x)) W ∙ net_value d z p x), bare n B))
@@ -212,12 +219,12 @@ pub record Scaled (v d z : ℕ) : Type 0 where
 pub scaled : (ds : List ℕ) → Small ds → Scaled (value_from 10 0 ds) (significand 0 0 ds) (zeros 0 ds)
 scaled ds S = record { value = digits_value ds; bare = no_trailing_zero 0 0 ds S (inl refl) }
 
-abbrev pub Yields : Bool → Literal → Figure → Type 0
-Yields s (decimal_integer v) f = (d : ℕ) × (z : ℕ) × Scaled v d z × (f ≡ cond (fits_integer s v) (Integer (signed s v)) (fraction s d (net_power z 0 (pos 0))))
-Yields s (hex_integer v) f = f ≡ Integer (wrap (signed s v))
+abbrev pub Yields : Bool → Literal → Option Figure → Type 0
+Yields s (decimal_integer v) f = (d : ℕ) × (z : ℕ) × Scaled v d z × (f ≡ cond (fits_integer s v) (Some (Integer (signed s v))) (fraction s d (net_power z 0 (pos 0))))
+Yields s (hex_integer v) f = f ≡ Some (Integer (wrap (signed s v)))
 Yields s (decimal_fraction v p x) f = (d : ℕ) × (z : ℕ) × Scaled v d z × (f ≡ fraction s d (net_power z p x))
 
-pub yields_denoted : {s : Bool} {l : Literal} {f : Figure} → Denotes s l f → (g : Figure) → Yields s l g → g ≡ f
+pub yields_denoted : {s : Bool} {l : Literal} {f : Figure} → Denotes s l f → (g : Option Figure) → Yields s l g → g ≡ Some f
 yields_denoted (is_integer h) g y = y.3 ∙ rw h
 yields_denoted hex_wraps g y = y
 yields_denoted {s} (zero_fits (a_fraction {v = v} {places = p} {x = x}) i) g y = y.3 ∙ read-zero s v y.0 y.1 y.2.value y.2.bare p x i
@@ -229,16 +236,13 @@ yields_denoted {s} (is_nearest {d = d} {e = e} (too_large {v = v} h) i) g y =
     as_fraction : InSet (decimal_integer v) d e → InSet (decimal_fraction v 0 (pos 0)) d e
     as_fraction i = record { same_value = integer-fraction v d e i.same_value; no_zero_last = i.no_zero_last; fifteen_digits = i.fifteen_digits; near_power = i.near_power }
 
-pub denotes_yielded : (s : Bool) (l : Literal) (f : Figure) → Yields s l f → (f ≡ None → ⊥) → Denotes s l f
-denotes_yielded s (decimal_integer v) f y n = rw y.3 (go (rw y.3 at n))
+pub denotes_yielded : (s : Bool) (l : Literal) (o : Option Figure) → Yields s l o → Denoted s l o
+denotes_yielded s (decimal_integer v) o y = rw y.3 go
   where
-    Unless : Figure → Type 0
-    Unless g = (g ≡ None → ⊥) → Denotes s (decimal_integer v) g
-
-    go : Unless (cond (fits_integer s v) (Integer (signed s v)) (fraction s y.0 (net_power y.1 0 (pos 0))))
+    go : Denoted s (decimal_integer v) (cond (fits_integer s v) (Some (Integer (signed s v))) (fraction s y.0 (net_power y.1 0 (pos 0))))
     go =
-        cond_cases Unless (fits_integer s v) (Integer (signed s v)) (fraction s y.0 (net_power y.1 0 (pos 0))) (λ h _. is_integer h)
+        cond_cases (Denoted s (decimal_integer v)) (fits_integer s v) (Some (Integer (signed s v))) (fraction s y.0 (net_power y.1 0 (pos 0))) (λ h. denoted (is_integer h))
         (λ h. value_read s v y.0 y.1 y.2.value y.2.bare 0 (pos 0) (decimal_integer v) (too_large h) (fraction-integer v))
-denotes_yielded s (hex_integer v) f y n = rw y hex_wraps
-denotes_yielded s (decimal_fraction v p x) f y n =
-    rw y.3 (value_read s v y.0 y.1 y.2.value y.2.bare p x (decimal_fraction v p x) a_fraction (λ d e h. h) (rw y.3 at n))
+denotes_yielded s (hex_integer v) o y = rw y (denoted hex_wraps)
+denotes_yielded s (decimal_fraction v p x) o y =
+    rw y.3 (value_read s v y.0 y.1 y.2.value y.2.bare p x (decimal_fraction v p x) a_fraction (λ d e h. h))

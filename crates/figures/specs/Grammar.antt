@@ -102,7 +102,7 @@ pub data Denotes (s : Bool) : Literal → Figure → Type 0 where
   -- every other value of the set
   is_nearest : {l : Literal} {d : ℕ} {e : ℤ} → ByFraction s l → InSet l d e → Denotes s l (Number (decimal s d e))
 
--- the text t reads as the figure f, which is never None
+-- the text t reads as the figure f
 pub record Reads (t : List ℕ) (f : Figure) : Type 0 where
   pub sign : Bool
   pub literal : Literal

@@ -1,9 +1,8 @@
 -- The run of digits as the code has it: one record, of which the two values stop at 2 ^ 63 + 1, above every integer and every exponent that matters.
 -- proofs/TallyLaws shows that nothing is lost by that. Assumes nothing.
-use Rattle.std.specs.Prelude.{ℕ, ◌+◌, ◌-◌, ◌*◌, ◌^◌, min, Bool, cond, List, [], ◌∷◌, ◌==◌}
+use Rattle.std.specs.Prelude.{ℕ, ◌+◌, ◌-◌, ◌*◌, ◌^◌, min, Bool, cond, List, [], ◌∷◌, ◌==◌, Option, None}
 use Rattle.figures.specs.Figures.{pointed}
 use Rattle.figures.specs.declared.Figure.{Figure}
-use Rattle.figures.specs.declared.Figure.TheVariants.{None}
 use Rattle.figures.specs.declared.Tally.{Tally}
 
 abbrev pub stop_at : ℕ
@@ -27,5 +26,5 @@ tally t [] = t
 tally t (c ∷ r) = tally (one_more t c) r
 
 -- the digits behind the point, after those before it
-abbrev pub behind_point : Bool → Tally → Tally → List ℕ → Figure
+abbrev pub behind_point : Bool → Tally → Tally → List ℕ → Option Figure
 behind_point s t u after = cond (u.count == 0) None (pointed s u.kept u.zeros (u.count - t.count) after)

@@ -1,6 +1,6 @@
 -- The parts of a figure's text: blanks, digits and what follows them. A text is a list of bytes; its first byte is 0 where there is none, and 0 is in no
 -- figure. Assumes nothing.
-use Rattle.std.specs.Prelude.{ℕ, zero, suc, ◌+◌, ◌-◌, ◌*◌, Bool, true, false, cond, ◌&&◌, ◌||◌, List, [], ◌∷◌, ◌==◌, nat_le, nat_lt}
+use Rattle.std.specs.Prelude.{ℕ, zero, suc, ◌+◌, ◌-◌, ◌*◌, Bool, true, false, cond, ◌&&◌, ◌||◌, List, [], ◌∷◌, ◌==◌, nat_le, nat_lt, Option, Some, None, slice_index, drop}
 
 unfoldable pub first : List ℕ → ℕ
 first [] = 0
@@ -27,6 +27,13 @@ unfoldable pub only_blanks : List ℕ → Bool
 unfolding is_empty drop_blanks
 only_blanks r = is_empty (drop_blanks r)
 
+-- "an optional sign": whether it is - (byte 45), and what follows it
+abbrev pub is_minus : List ℕ → Bool
+is_minus r = slice_index r 0 == 45
+
+abbrev pub behind_sign : List ℕ → List ℕ
+behind_sign r = cond (slice_index r 0 == 45 || slice_index r 0 == 43) (drop 1 r) r
+
 abbrev pub is_x : ℕ → Bool
 is_x b = b == 120 || b == 88
 
@@ -38,6 +45,10 @@ is_e b = b == 101 || b == 69
 -- what a byte stands for as a digit, a letter in either case; 16 where it is none
 unfoldable pub digit : ℕ → ℕ
 digit b = cond (nat_le 48 b && nat_le b 57) (b - 48) (cond (nat_le 97 b && nat_le b 102) (b - 87) (cond (nat_le 65 b && nat_le b 70) (b - 55) 16))
+
+-- the same where the byte is a digit of base 10 or 16, and nothing where it is none
+abbrev pub digit_in : ℕ → ℕ → Option ℕ
+digit_in base b = cond (nat_lt (digit b) base) (Some (digit b)) None
 
 -- the digits of base 10 or 16 that a text begins with, as numbers, and what follows them
 unfoldable pub digits : ℕ → List ℕ → List ℕ

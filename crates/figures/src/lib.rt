@@ -1,189 +1,185 @@
 // Figures that arrive as text: document 02, 1/12.
 #![tactic(auto)]
 
-ghost use Rattle.std.specs.Prelude.{◌≡◌, suc, ◌+◌, ◌*◌, ◌%◌, ◌^◌, ◌<◌, ◌≤◌, min, false, length, drop, pos, negsuc};
+ghost use Rattle.std.specs.Prelude.{◌≡◌, suc, ◌+◌, ◌*◌, ◌%◌, ◌^◌, ◌<◌, ◌≤◌, false, length, pos, negsuc, unsigned_abs};
 ghost use Rattle.std.specs.Float.Ieee.{minus};
 ghost use Rattle.std.specs.Float.Ieee.Exact.{HasValue};
 ghost use Rattle.integer.specs.Wrap.{wrap};
 ghost use Rattle.number.specs.Exact.{signed};
 ghost use Rattle.constant.specs.Values.{text_of};
 ghost use Rattle.figures.specs.Decimal.{decimal, sign_of};
-ghost use Rattle.figures.specs.declared.Figure.TheVariants.{Number};
 ghost use Rattle.figures.specs.Texts as Texts;
-ghost use Rattle.figures.specs.Texts.{drop_blanks, digits, value_from};
-ghost use Rattle.figures.specs.Steps.{empty_tally, one_more, tally, behind_point};
+ghost use Rattle.figures.specs.Texts.{digit_in, digits, after_digits, value_from};
+ghost use Rattle.figures.specs.Steps.{one_more, tally, behind_point};
 ghost use Rattle.figures.specs.Figures as Figures;
-ghost use Rattle.figures.specs.Figured.{read_as, figured_of};
+ghost use Rattle.figures.specs.Figured.{figured_of};
 
 use constant::Value;
 
-// What a text reads as.
-#[derive(Clone, Copy)]
+// What a text reads as, where it is a figure.
+#[derive(Clone, Copy, Debug, PartialEq)]
 pub enum Figure {
     Integer(i64),
     Number(f64),
-    None,
 }
 
 // ---- the fraction
 
-// 10^k, which is a number up to k = 22.
+// The powers of ten that are numbers.
+const TENS: [f64; 23] = [
+    1e0, 1e1, 1e2, 1e3, 1e4, 1e5, 1e6, 1e7, 1e8, 1e9, 1e10, 1e11, 1e12, 1e13, 1e14, 1e15, 1e16,
+    1e17, 1e18, 1e19, 1e20, 1e21, 1e22,
+];
+
+// 10^k.
 fn ten(k: u64) -> f64
     requires { k ≤ 22 }
     ensures { HasValue result false (10 ^ k) 1 }
 {
-    match k {
-        0 => 1e0,
-        1 => 1e1,
-        2 => 1e2,
-        3 => 1e3,
-        4 => 1e4,
-        5 => 1e5,
-        6 => 1e6,
-        7 => 1e7,
-        8 => 1e8,
-        9 => 1e9,
-        10 => 1e10,
-        11 => 1e11,
-        12 => 1e12,
-        13 => 1e13,
-        14 => 1e14,
-        15 => 1e15,
-        16 => 1e16,
-        17 => 1e17,
-        18 => 1e18,
-        19 => 1e19,
-        20 => 1e20,
-        21 => 1e21,
-        _ => 1e22,
-    }
+    TENS[k as usize]
 }
 
-// d × 10^k, rounded once.
-fn times_ten(d: u64, k: u64) -> f64
-    requires { (d < 10 ^ 15) × (k ≤ 22) }
-    ensures { result ≡ decimal false d (pos k) }
+// d × 10^(up - down), rounded once.
+#[tactic(auto, using(crate::proofs::Scaling::multiplied, crate::proofs::Scaling::divided))]
+fn scaled(d: u64, up: u64, down: u64) -> f64
+    requires few { d < 10 ^ 15 }
+    requires near { unsigned_abs (minus up down) ≤ 22 }
+    ensures { result ≡ decimal false d (minus up down) }
 {
-    number::from_integer(integer::from_word(d)) * ten(k)
-}
-
-// d / 10^(k + 1), rounded once.
-fn over_ten(d: u64, k: u64) -> f64
-    requires { (d < 10 ^ 15) × (k < 22) }
-    ensures { result ≡ decimal false d (negsuc k) }
-{
-    number::from_integer(integer::from_word(d)) / ten(k + 1)
-}
-
-fn signed_number(negative: bool, x: f64) -> Figure
-    ensures { result ≡ Number (sign_of negative x) }
-{
-    if negative {
-        return Figure::Number(-x);
-    }
-    Figure::Number(x)
-}
-
-// d × 10^(up - down) with a sign, where d has no trailing zero.
-fn fraction(negative: bool, d: u64, up: u64, down: u64) -> Figure
-    ensures { result ≡ Figures.fraction negative d (minus up down) }
-{
-    if d == 0 {
-        return signed_number(negative, 0.0);
-    }
-    if 1000000000000000 <= d {
-        return Figure::None;
-    }
+    let x = d as f64;
     if down <= up {
-        let k = up - down;
-        if 22 < k {
-            return Figure::None;
+        x * ten(up - down)
+    } else {
+        x / ten(down - up)
+    }
+}
+
+fn signed_number(negative: bool, x: f64) -> f64
+    ensures { result ≡ sign_of negative x }
+{
+    if negative { -x } else { x }
+}
+
+// A fraction's digits with a sign: value × 10^zeros, of which `places` stand behind the point.
+#[derive(Clone, Copy)]
+struct Digits {
+    negative: bool,
+    value: u64,
+    zeros: u64,
+    places: u64,
+}
+
+impl Digits {
+    // value × 10^(zeros - places), where value has no trailing zero.
+    #[tactic(auto, using(crate::proofs::FractionLaws::fraction_terms), unfolding(crate::specs::Figures::fraction))]
+    fn fraction(self) -> Option<Figure>
+        ensures { result ≡ Figures.fraction self.negative self.value (minus self.zeros self.places) }
+    {
+        if self.value == 0 {
+            return Some(Figure::Number(signed_number(self.negative, 0.0)));
         }
-        return signed_number(negative, times_ten(d, k));
+        if 1_000_000_000_000_000 <= self.value {
+            return None;
+        }
+        if 22 < self.zeros.abs_diff(self.places) {
+            return None;
+        }
+        let x = scaled(self.value, self.zeros, self.places);
+        Some(Figure::Number(signed_number(self.negative, x)))
     }
-    let k = down - up - 1;
-    if 22 <= k {
-        return Figure::None;
+
+    // The exponent: a sign and digits.
+    #[tactic(auto, using(crate::proofs::FigureLaws::exponent_terms))]
+    fn exponent(self, s: &[u8]) -> Option<Figure>
+        requires short { length s.now < 65536 }
+        requires zeros { self.zeros < 65536 }
+        requires places { self.places < 65536 }
+        ensures { result ≡ Figures.exponent self.negative self.value self.zeros self.places s.now }
+    {
+        let (below, s) = sign(s);
+        let (x, after) = scan(s, NO_DIGITS);
+        if x.count == 0 {
+            return None;
+        }
+        if !only_blanks(after) {
+            return None;
+        }
+        if below {
+            return Digits {
+                places: self.places + x.value,
+                ..self
+            }
+            .fraction();
+        }
+        Digits {
+            zeros: self.zeros + x.value,
+            ..self
+        }
+        .fraction()
     }
-    signed_number(negative, over_ten(d, k))
+
+    // What follows the digits of a fraction with a point.
+    #[tactic(auto, using(crate::proofs::TextLaws::fronts), unfolding(crate::specs::Figures::pointed))]
+    fn pointed(self, s: &[u8]) -> Option<Figure>
+        requires short { length s.now < 65536 }
+        requires zeros { self.zeros < 65536 }
+        requires places { self.places < 65536 }
+        ensures { result ≡ Figures.pointed self.negative self.value self.zeros self.places s.now }
+    {
+        if let [b'e' | b'E', rest @ ..] = s {
+            return self.exponent(rest);
+        }
+        if !only_blanks(s) {
+            return None;
+        }
+        self.fraction()
+    }
 }
 
 // ---- a text's parts
 
-fn first(s: &[u8]) -> u8
-    ensures { result ≡ Texts.first s.now }
-{
-    if s.len() == 0 {
-        return 0;
-    }
-    s[0]
-}
-
-// What is left behind n bytes.
-fn behind(s: &[u8], n: usize) -> &[u8]
-    ensures { result.now ≡ drop n s.now }
-{
-    if s.len() <= n {
-        return &s[..0];
-    }
-    &s[n..]
-}
-
 fn is_blank(b: u8) -> bool
     ensures { result ≡ Texts.blank b }
 {
-    ((9 <= b) & (b <= 13)) | (b == 32)
+    matches!(b, 9..=13 | 32)
 }
 
-fn count_blanks(s: &[u8]) -> usize
-    ensures { drop result s.now ≡ drop_blanks s.now }
+fn drop_blanks(s: &[u8]) -> &[u8]
+    ensures { result.now ≡ Texts.drop_blanks s.now }
 {
-    let mut i = 0;
-    while i < s.len() {
-        if !is_blank(s[i]) {
-            return i;
-        }
-        i = i + 1;
-    }
-    i
+    let n = s.iter().take_while(|&&b| is_blank(b)).count();
+    &s[n..]
 }
 
+#[tactic(auto, using(crate::proofs::TextLaws::blank_terms))]
 fn only_blanks(s: &[u8]) -> bool
     ensures { result ≡ Texts.only_blanks s.now }
 {
-    let n = count_blanks(s);
-    s.len() <= n
+    drop_blanks(s).is_empty()
 }
 
-fn is_x(b: u8) -> bool
-    ensures { result ≡ Texts.is_x b }
+// An optional sign: whether it is -, and what follows it.
+fn sign(s: &[u8]) -> (bool, &[u8])
+    ensures minus { result.0 ≡ Texts.is_minus s.now }
+    ensures behind { result.1.now ≡ Texts.behind_sign s.now }
 {
-    (b == b'x') | (b == b'X')
-}
-
-fn is_e(b: u8) -> bool
-    ensures { result ≡ Texts.is_e b }
-{
-    (b == b'e') | (b == b'E')
+    match s {
+        [b'-', rest @ ..] => (true, rest),
+        [b'+', rest @ ..] => (false, rest),
+        _ => (false, s),
+    }
 }
 
 // ---- digits
 
-// What a byte stands for as a digit; 16 where it is none.
-fn digit(b: u8) -> u64
-    ensures { result ≡ Texts.digit b }
+// What a byte stands for as a digit of base 10 or 16.
+#[tactic(auto, using(crate::proofs::TextLaws::digit_terms))]
+fn digit(b: u8, base: u32) -> Option<u64>
+    requires low { 2 ≤ base }
+    requires high { base ≤ 16 }
+    ensures { result ≡ digit_in base b }
 {
-    let w = b as u64;
-    if (48 <= w) & (w <= 57) {
-        return w - 48;
-    }
-    if (97 <= w) & (w <= 102) {
-        return w - 87;
-    }
-    if (65 <= w) & (w <= 70) {
-        return w - 55;
-    }
-    16
+    char::from(b).to_digit(base).map(u64::from)
 }
 
 // The digits so far: their value and the value up to the last that is not 0, both at most 2^63 + 1; how many zeros
@@ -196,95 +192,93 @@ struct Tally {
     count: usize,
 }
 
-fn ten_times(v: u64, c: u64) -> u64
-    requires { c < 10 }
-    ensures { result ≡ min (v * 10 + c) (2 ^ 63 + 1) }
-{
-    if v < 922337203685477581 {
-        return v * 10 + c;
-    }
-    0x8000_0000_0000_0001
-}
+const NO_DIGITS: Tally = Tally {
+    value: 0,
+    kept: 0,
+    zeros: 0,
+    count: 0,
+};
 
-fn empty_tally() -> Tally
-    ensures { result ≡ empty_tally }
-{
-    Tally {
-        value: 0,
-        kept: 0,
-        zeros: 0,
-        count: 0,
+impl Tally {
+    // The digits without their trailing zeros, with a sign and so many places behind the point.
+    fn digits(self, negative: bool, places: u64) -> Digits
+        ensures { result ≡ record { negative = negative; value = self.kept; zeros = self.zeros; places = places } }
+    {
+        Digits {
+            negative,
+            value: self.kept,
+            zeros: self.zeros,
+            places,
+        }
     }
-}
 
-// One digit more.
-fn one_more(t: Tally, c: u64) -> Tally
-    requires { (c < 10) × (t.zeros < 2 ^ 32) × (t.count < 2 ^ 32) }
-    ensures { result ≡ one_more t c }
-{
-    let value = ten_times(t.value, c);
-    if c == 0 {
-        return Tally {
+    // One digit more.
+    #[tactic(auto, unfolding(crate::specs::Steps::one_more))]
+    fn one_more(self, c: u64) -> Tally
+        requires zeros { self.zeros < 2 ^ 32 }
+        requires count { self.count < 2 ^ 32 }
+        ensures { result ≡ one_more self c }
+    {
+        let value = self
+            .value
+            .saturating_mul(10)
+            .saturating_add(c)
+            .min(0x8000_0000_0000_0001);
+        let count = self.count + 1;
+        if c == 0 {
+            return Tally {
+                value,
+                zeros: self.zeros + 1,
+                count,
+                ..self
+            };
+        }
+        Tally {
             value,
-            kept: t.kept,
-            zeros: t.zeros + 1,
-            count: t.count + 1,
+            kept: value,
+            zeros: 0,
+            count,
+        }
+    }
+}
+
+// The digits that a text begins with, after those before it, and what follows them.
+#[tactic(auto, using(crate::proofs::TallyLaws::scan_terms))]
+fn scan(s: &[u8], before: Tally) -> (Tally, &[u8])
+    requires zeros { before.zeros + length s.now < 2 ^ 32 }
+    requires count { before.count + length s.now < 2 ^ 32 }
+    ensures tally { result.0 ≡ tally before (digits 10 s.now) }
+    ensures after { result.1.now ≡ after_digits 10 s.now }
+{
+    let mut t = before;
+    let mut rest = s;
+    while let [b, tail @ ..] = rest {
+        let Some(c) = digit(*b, 10) else {
+            return (t, rest);
         };
+        t = t.one_more(c);
+        rest = tail;
     }
-    Tally {
-        value,
-        kept: value,
-        zeros: 0,
-        count: t.count + 1,
-    }
+    (t, rest)
 }
 
-// The digits that a text begins with, after those before it.
-fn scan(s: &[u8], t: Tally) -> Tally
-    requires { (t.zeros + length s.now < 2 ^ 32) × (t.count + length s.now < 2 ^ 32) }
-    ensures { result ≡ tally t (digits 10 s.now) }
+// The hexadecimal digits that a text begins with: their value, wrapped, and what follows them. One loop over a closure
+// for both bases would be no plainer: a digit more has bounds to keep in the decimal run, and none here.
+#[tactic(auto, using(crate::proofs::TextLaws::hex_steps))]
+fn scan_hex(s: &[u8]) -> (u64, &[u8])
+    ensures value { result.0 ≡ value_from 16 0 (digits 16 s.now) % 2 ^ 64 }
+    ensures after { result.1.now ≡ after_digits 16 s.now }
 {
-    let mut u = t;
-    let mut i = 0;
-    while i < s.len() {
-        let c = digit(s[i]);
-        if 10 <= c {
-            return u;
-        }
-        u = one_more(u, c);
-        i = i + 1;
+    let mut value = 0u64;
+    let mut rest = s;
+    while let [b, tail @ ..] = rest {
+        let Some(c) = digit(*b, 16) else {
+            return (value, rest);
+        };
+        value = value.wrapping_mul(16).wrapping_add(c);
+        rest = tail;
     }
-    u
-}
-
-fn digits_of(s: &[u8]) -> Tally
-    requires { length s.now < 2 ^ 32 }
-    ensures { result ≡ tally empty_tally (digits 10 s.now) }
-{
-    scan(s, empty_tally())
-}
-
-// Hexadecimal digits: their value, wrapped, and how many there are.
-#[derive(Clone, Copy)]
-struct Hex {
-    value: u64,
-    count: usize,
-}
-
-fn scan_hex(s: &[u8]) -> Hex
-    ensures { (result.value ≡ value_from 16 0 (digits 16 s.now) % 2 ^ 64) × (result.count ≡ length (digits 16 s.now)) }
-{
-    let mut value: u64 = 0;
-    let mut i = 0;
-    while i < s.len() {
-        let c = digit(s[i]);
-        if 16 <= c {
-            return Hex { value, count: i };
-        }
-        value = value % 0x1000_0000_0000_0000 * 16 + c;
-        i = i + 1;
-    }
-    Hex { value, count: i }
+    (value, rest)
 }
 
 // ---- figures
@@ -294,11 +288,12 @@ fn signed_integer(negative: bool, v: u64) -> i64
     ensures { result ≡ wrap (signed negative v) }
 {
     if negative {
-        return integer::from_word(std::num::wrapping_sub_u64(0, v));
+        return v.wrapping_neg().cast_signed();
     }
-    integer::from_word(v)
+    v.cast_signed()
 }
 
+// Whether it is in range. `checked_sub_unsigned`, which would say so with the integer, is not in this std.
 fn fits_integer(negative: bool, v: u64) -> bool
     ensures { result ≡ Figures.fits_integer negative v }
 {
@@ -308,161 +303,94 @@ fn fits_integer(negative: bool, v: u64) -> bool
     v < 0x8000_0000_0000_0000
 }
 
-// A decimal integer of value v, which is d × 10^z, and what follows it.
-fn whole(s: &[u8], negative: bool, v: u64, d: u64, z: u64) -> Figure
-    ensures { result ≡ Figures.whole negative v d z s.now }
+// A decimal integer, and what follows its digits.
+#[tactic(auto, using(crate::proofs::FigureLaws::whole_terms), unfolding(crate::specs::Figures::whole))]
+fn whole(s: &[u8], negative: bool, t: Tally) -> Option<Figure>
+    ensures { result ≡ Figures.whole negative t.value t.kept t.zeros s.now }
 {
     if !only_blanks(s) {
-        return Figure::None;
+        return None;
     }
-    if fits_integer(negative, v) {
-        return Figure::Integer(signed_integer(negative, v));
+    if fits_integer(negative, t.value) {
+        return Some(Figure::Integer(signed_integer(negative, t.value)));
     }
-    fraction(negative, d, z, 0)
-}
-
-// The exponent's digits.
-fn power(s: &[u8], negative: bool, d: u64, z: u64, places: u64, below: bool) -> Figure
-    requires { (length s.now < 65536) × (z < 65536) × (places < 65536) }
-    ensures { result ≡ Figures.power negative d z places below s.now }
-{
-    let x = digits_of(s);
-    let n = x.count;
-    if n == 0 {
-        return Figure::None;
-    }
-    if !only_blanks(behind(s, n)) {
-        return Figure::None;
-    }
-    let e = x.value;
-    if below {
-        return fraction(negative, d, z, places + e);
-    }
-    fraction(negative, d, z + e, places)
-}
-
-fn exponent(s: &[u8], negative: bool, d: u64, z: u64, places: u64) -> Figure
-    requires { (length s.now < 65536) × (z < 65536) × (places < 65536) }
-    ensures { result ≡ Figures.exponent negative d z places s.now }
-{
-    let b = first(s);
-    if b == b'-' {
-        return power(behind(s, 1), negative, d, z, places, true);
-    }
-    if b == b'+' {
-        return power(behind(s, 1), negative, d, z, places, false);
-    }
-    power(s, negative, d, z, places, false)
-}
-
-// What follows the digits of a fraction with a point.
-fn pointed(s: &[u8], negative: bool, d: u64, z: u64, places: u64) -> Figure
-    requires { (length s.now < 65536) × (z < 65536) × (places < 65536) }
-    ensures { result ≡ Figures.pointed negative d z places s.now }
-{
-    if is_e(first(s)) {
-        return exponent(behind(s, 1), negative, d, z, places);
-    }
-    if !only_blanks(s) {
-        return Figure::None;
-    }
-    fraction(negative, d, z, places)
+    t.digits(negative, 0).fraction()
 }
 
 // What follows the point, after the digits before it.
-fn behind_point(s: &[u8], negative: bool, t: Tally) -> Figure
-    requires { (t.zeros + length s.now < 65536) × (t.count + length s.now < 65536) }
-    ensures { result ≡ behind_point negative t (tally t (digits 10 s.now)) (Texts.after_digits 10 s.now) }
+#[tactic(auto, using(crate::proofs::FigureLaws::run_terms))]
+fn behind_point(s: &[u8], negative: bool, before: Tally) -> Option<Figure>
+    requires zeros { before.zeros + length s.now < 65536 }
+    requires count { before.count + length s.now < 65536 }
+    ensures { result ≡ behind_point negative before (tally before (digits 10 s.now)) (after_digits 10 s.now) }
 {
-    let u = scan(s, t);
-    let n = u.count;
-    if n == 0 {
-        return Figure::None;
+    let (t, after) = scan(s, before);
+    if t.count == 0 {
+        return None;
     }
-    let places = n - t.count;
-    pointed(behind(s, places), negative, u.kept, u.zeros, places as u64)
+    let places = (t.count - before.count) as u64;
+    t.digits(negative, places).pointed(after)
 }
 
-fn decimal_text(s: &[u8], negative: bool) -> Figure
+#[tactic(auto, using(crate::proofs::FigureLaws::decimal_terms))]
+fn decimal_text(s: &[u8], negative: bool) -> Option<Figure>
     requires { length s.now < 65536 }
     ensures { result ≡ Figures.decimal_text negative s.now }
 {
-    let t = digits_of(s);
-    let n = t.count;
-    let after = behind(s, n);
-    let b = first(after);
-    if b == b'.' {
-        return behind_point(behind(after, 1), negative, t);
+    let (t, after) = scan(s, NO_DIGITS);
+    if let [b'.', rest @ ..] = after {
+        return behind_point(rest, negative, t);
     }
-    if n == 0 {
-        return Figure::None;
+    if t.count == 0 {
+        return None;
     }
-    if is_e(b) {
-        return exponent(behind(after, 1), negative, t.kept, t.zeros, 0);
+    if let [b'e' | b'E', rest @ ..] = after {
+        return t.digits(negative, 0).exponent(rest);
     }
-    whole(after, negative, t.value, t.kept, t.zeros)
+    whole(after, negative, t)
 }
 
 // Behind 0x.
-fn hex_text(s: &[u8], negative: bool) -> Figure
+#[tactic(auto, using(crate::proofs::FigureLaws::hex_terms), unfolding(crate::specs::Figures::hex_text))]
+fn hex_text(s: &[u8], negative: bool) -> Option<Figure>
     ensures { result ≡ Figures.hex_text negative s.now }
 {
-    let h = scan_hex(s);
-    let n = h.count;
-    if n == 0 {
-        return Figure::None;
+    let (value, after) = scan_hex(s);
+    if after.len() == s.len() {
+        return None;
     }
-    if !only_blanks(behind(s, n)) {
-        return Figure::None;
+    if !only_blanks(after) {
+        return None;
     }
-    Figure::Integer(signed_integer(negative, h.value))
+    Some(Figure::Integer(signed_integer(negative, value)))
 }
 
-fn unsigned(s: &[u8], negative: bool) -> Figure
+#[tactic(auto, using(crate::proofs::TextLaws::fronts), unfolding(crate::specs::Figures::unsigned))]
+fn unsigned(s: &[u8], negative: bool) -> Option<Figure>
     requires { length s.now < 65536 }
     ensures { result ≡ Figures.unsigned negative s.now }
 {
-    let b = first(s);
-    let x = is_x(first(behind(s, 1)));
-    if (b == b'0') & x {
-        return hex_text(behind(s, 2), negative);
+    if let [b'0', b'x' | b'X', rest @ ..] = s {
+        return hex_text(rest, negative);
     }
     decimal_text(s, negative)
 }
 
 // What a text reads as.
-fn figure_text(s: &[u8]) -> Figure
+#[tactic(auto, using(crate::proofs::FigureLaws::text_terms))]
+fn figure_text(s: &[u8]) -> Option<Figure>
     requires { length s.now < 65536 }
     ensures { result ≡ Figures.figure_of s.now }
 {
-    let n = count_blanks(s);
-    let t = behind(s, n);
-    let b = first(t);
-    if b == b'-' {
-        return unsigned(behind(t, 1), true);
-    }
-    if b == b'+' {
-        return unsigned(behind(t, 1), false);
-    }
-    unsigned(t, false)
+    let (negative, rest) = sign(drop_blanks(s));
+    unsigned(rest, negative)
 }
 
 // What the string whose constant has this number reads as.
-pub fn figure_of(const_words: &[u64], texts: &[u8], n: u64) -> Figure
+pub fn figure_of(const_words: &[u64], texts: &[u8], n: u64) -> Option<Figure>
     ensures { result ≡ Figures.figure_of (text_of const_words.now texts.now n) }
 {
     figure_text(constant::text_of(const_words, texts, n))
-}
-
-// The string with constant n, where its text reads so.
-fn read_as(n: u64, f: Figure) -> Value
-    ensures { result ≡ read_as n f }
-{
-    match f {
-        Figure::Integer(x) => Value::Integer(x),
-        Figure::Number(x) => Value::Number(x),
-        Figure::None => Value::String(n),
-    }
 }
 
 // What arithmetic and bit operations take a value for: a string that reads as a figure becomes that integer or number,
@@ -470,12 +398,12 @@ fn read_as(n: u64, f: Figure) -> Value
 pub fn figured(v: Value, const_words: &[u64], texts: &[u8]) -> Value
     ensures { result ≡ figured_of const_words.now texts.now v }
 {
-    match v {
-        Value::String(n) => read_as(n, figure_of(const_words, texts, n)),
-        Value::Nil => v,
-        Value::Boolean(_) => v,
-        Value::Integer(_) => v,
-        Value::Number(_) => v,
-        Value::Function(_) => v,
+    let Value::String(n) = v else {
+        return v;
+    };
+    match figure_of(const_words, texts, n) {
+        Some(Figure::Integer(x)) => Value::Integer(x),
+        Some(Figure::Number(x)) => Value::Number(x),
+        None => v,
     }
 }

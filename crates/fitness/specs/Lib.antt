@@ -1,3 +1,4 @@
 -- When a machine's state is fit to run.
 pub mod Fit
 pub mod Facts
+pub mod Held

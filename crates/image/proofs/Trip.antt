@@ -9,17 +9,18 @@ use lib.ListN.{length, get_or, drop, drop_of_length-le, length-drop}
 use lib.Seq.{drop-cons}
 use lib.Dec.{leb, ltb, eqb}
 use borrow.Author.Tests.{ltb-true, leb-true, eqb-true}
+use Rattle.std.specs.Prelude.{Ok}
 use Rattle.image.specs.Hex.{paired, bytes_of, word_from}
 use Rattle.image.specs.Lines.{Line, ended, unended, onto, lines}
 use Rattle.image.specs.Instruction.{packed, Packs}
 use Rattle.image.specs.Frames.{F, opens, const, str, code, ends, bad, desc, shape, payload, most_of, word_bytes_of, frame_of, kind_bytes, open_bytes, const_bytes, code_bytes, end_bytes, desc_bytes, line_frame, frames_of}
-use Rattle.image.specs.Judge.{frame_step, start, at_end, judge_after, judge_frames, judge_of}
+use Rattle.image.specs.Judge.{Judged, refused, frame_step, start, at_end, judge_after, judge_frames, judge_of}
 use Rattle.image.specs.Write.{hex_of, frame_bytes, written}
 use Rattle.image.specs.declared.Counts.{Counts}
 use Rattle.image.specs.declared.Step.{Step}
 use Rattle.image.specs.declared.Step.TheVariants.{On, Done, No}
-use Rattle.image.specs.declared.Judged.{Judged}
-use Rattle.image.specs.declared.Judged.TheVariants.{Accepted, Refused}
+use Rattle.image.specs.declared.ReadError.{ReadError}
+use Rattle.image.specs.declared.ReadError.TheVariants.{BrokenLine, BadFrame, PastLimit}
 use Rattle.choices.proofs.Choices.{by_bool, cond_cases}
 use Rattle.image.proofs.HexLaws.{AllBytes, bytes_drop, byte-lt, hex-back, word-bytes}
 use Rattle.image.proofs.Packing.{packed-back}
@@ -42,8 +43,8 @@ module _ (B : List ℕ) (bytes : AllBytes B) where
   abbrev Back : F → Type 0
   Back f = good f ≡ true → (frame_bytes f ≡ B) × Said f
 
-  bad-back : (k : ℕ) → Back (bad k)
-  bad-back k e = let z : ◌≡◌ {A = ℕ} 0 1 = cc in absurd (omega arith)
+  bad-back : (e : ReadError) → Back (bad e)
+  bad-back r e = let z : ◌≡◌ {A = ℕ} 0 1 = cc in absurd (omega arith)
 
   -- B by its first elements
   front : (i x : ℕ) (r : List ℕ) → i < length B → x ≡ get_or B i 0 → r ≡ drop (suc i) B → x ∷ r ≡ drop i B
@@ -58,9 +59,9 @@ module _ (B : List ℕ) (bytes : AllBytes B) where
       cond_cases Back (eqb (length B) 3) _ _
       (λ h. cond_cases Back (leb 1 (get_or B 1 0)) _ _
       (λ t. cond_cases Back (leb (get_or B 2 0) (get_or B 1 0)) _ _
-      (λ m e. (three (eqb-true _ _ h), (leb-true _ _ t, (omega (arith, bytes 1), leb-true _ _ m)))) (λ m. bad-back 2))
-      (λ t. bad-back 2))
-      (λ h. bad-back 2)
+      (λ m e. (three (eqb-true _ _ h), (leb-true _ _ t, (omega (arith, bytes 1), leb-true _ _ m)))) (λ m. bad-back BadFrame))
+      (λ t. bad-back BadFrame))
+      (λ h. bad-back BadFrame)
     where
       three : length B ≡ 3 → frame_bytes (opens (get_or B 1 0) (get_or B 2 0)) ≡ B
       three h = unfold frame_bytes in
@@ -69,7 +70,7 @@ module _ (B : List ℕ) (bytes : AllBytes B) where
 
   end_back : 0xe0 ≡ get_or B 0 0 → Back (end_bytes B)
   unfolding end_bytes
-  end_back k = cond_cases Back (eqb (length B) 2) _ _ (λ h e. (two (eqb-true _ _ h), bytes 1)) (λ h. bad-back 2)
+  end_back k = cond_cases Back (eqb (length B) 2) _ _ (λ h e. (two (eqb-true _ _ h), bytes 1)) (λ h. bad-back BadFrame)
     where
       two : length B ≡ 2 → frame_bytes (ends (get_or B 1 0)) ≡ B
       two h = unfold frame_bytes in
@@ -78,7 +79,7 @@ module _ (B : List ℕ) (bytes : AllBytes B) where
   code-back : 0xc0 ≡ get_or B 0 0 → Back (code_bytes B)
   unfolding code_bytes
   code-back k =
-      cond_cases Back (eqb (length B) 6) _ _ (λ h e. (six (eqb-true _ _ h), fields.fits)) (λ h. bad-back 2)
+      cond_cases Back (eqb (length B) 6) _ _ (λ h e. (six (eqb-true _ _ h), fields.fits)) (λ h. bad-back BadFrame)
     where
       w : ℕ
       w = packed (get_or B 1 0) (get_or B 2 0) (get_or B 3 0) (get_or B 4 0) (get_or B 5 0)
@@ -99,8 +100,8 @@ module _ (B : List ℕ) (bytes : AllBytes B) where
   word_back tag h k t l =
       cond_cases Back (eqb (length (drop 2 B)) (payload tag)) _ _
       (λ m. cond_cases Back (leb (word_from 0 (drop 2 B)) (most_of tag)) _ _
-      (λ n e. (some (eqb-true _ _ m), (l, leb-true _ _ n))) (λ n. bad-back 2))
-      (λ m. bad-back 2)
+      (λ n e. (some (eqb-true _ _ m), (l, leb-true _ _ n))) (λ n. bad-back BadFrame))
+      (λ m. bad-back BadFrame)
     where
       some : length (drop 2 B) ≡ payload tag → frame_bytes (const tag (word_from 0 (drop 2 B))) ≡ B
       some m = unfold frame_bytes in
@@ -114,9 +115,9 @@ module _ (B : List ℕ) (bytes : AllBytes B) where
       (λ h. cond_cases Back (ltb (get_or B 1 0) 4) _ _ (λ t. word_back (get_or B 1 0) (leb-true _ _ h) k refl (ltb-true _ _ t))
       (λ t. cond_cases Back (eqb (get_or B 1 0) 4) _ _
       (λ u. cond_cases Back (leb (length B) 66) _ _
-      (λ m e. (text (leb-true _ _ h) (eqb-true _ _ u), (short (leb-true _ _ m), bytes_drop 2 B bytes))) (λ m. bad-back 2))
-      (λ u. bad-back 2)))
-      (λ h. bad-back 2)
+      (λ m e. (text (leb-true _ _ h) (eqb-true _ _ u), (short (leb-true _ _ m), bytes_drop 2 B bytes))) (λ m. bad-back BadFrame))
+      (λ u. bad-back BadFrame)))
+      (λ h. bad-back BadFrame)
     where
       text : 2 ≤ length B → get_or B 1 0 ≡ 4 → frame_bytes (str (drop 2 B)) ≡ B
       text h t = unfold frame_bytes in front 0 _ _ (omega arith) k (front 1 _ _ (omega arith) (sym t) refl)
@@ -128,8 +129,8 @@ module _ (B : List ℕ) (bytes : AllBytes B) where
   unfolding desc_bytes
   desc-back k =
       cond_cases Back (eqb (length B) 3) _ _
-      (λ h. cond_cases Back (leb (get_or B 1 0) 1) _ _ (λ t e. (three (eqb-true _ _ h), (leb-true _ _ t, bytes 2))) (λ t. bad-back 2))
-      (λ h. bad-back 2)
+      (λ h. cond_cases Back (leb (get_or B 1 0) 1) _ _ (λ t e. (three (eqb-true _ _ h), (leb-true _ _ t, bytes 2))) (λ t. bad-back BadFrame))
+      (λ h. bad-back BadFrame)
     where
       three : length B ≡ 3 → frame_bytes (desc (get_or B 1 0) (get_or B 2 0)) ≡ B
       three h = unfold frame_bytes in
@@ -144,7 +145,7 @@ module _ (B : List ℕ) (bytes : AllBytes B) where
       (λ a. cond_cases Back (eqb k 0xb0) _ _ (λ b. const-back (sym (eqb-true _ _ b)))
       (λ b. cond_cases Back (eqb k 0xc0) _ _ (λ c. code-back (sym (eqb-true _ _ c)))
       (λ c. cond_cases Back (eqb k 0xe0) _ _ (λ d. end_back (sym (eqb-true _ _ d)))
-      (λ d. cond_cases Back (eqb k 0xd1) _ _ (λ e. desc-back (sym (eqb-true _ _ e))) (λ e. bad-back 2)))))
+      (λ d. cond_cases Back (eqb k 0xd1) _ _ (λ e. desc-back (sym (eqb-true _ _ e))) (λ e. bad-back BadFrame)))))
 
 -- a line of which a frame was read is that frame's text
 line-back : (l : List ℕ) → good (frame_of l) ≡ true → (hex_of (frame_bytes (frame_of l)) ≡ l) × Said (frame_of l)
@@ -152,14 +153,14 @@ unfolding frame_of
 line-back l =
     cond_cases Text (leb 1 (length l)) _ _
     (λ h. cond_cases Text (paired l) _ _
-    (λ p e. let b = kind-back (bytes_of l) (byte-lt l p) e in (ap hex_of b.0 ∙ hex-back l p, b.1)) (λ p. refused 1))
-    (λ h. refused 1)
+    (λ p e. let b = kind-back (bytes_of l) (byte-lt l p) e in (ap hex_of b.0 ∙ hex-back l p, b.1)) (λ p. broken))
+    (λ h. broken)
   where
     Text : F → Type 0
     Text f = good f ≡ true → (hex_of (frame_bytes f) ≡ l) × Said f
 
-    refused : (k : ℕ) → Text (bad k)
-    refused k e = let z : ◌≡◌ {A = ℕ} 0 1 = cc in absurd (omega arith)
+    broken : Text (bad BrokenLine)
+    broken e = let z : ◌≡◌ {A = ℕ} 0 1 = cc in absurd (omega arith)
 
 -- ---- lines
 
@@ -199,7 +200,7 @@ written-lines (unended l ∷ ls) (and e g) = let z : ◌≡◌ {A = ℕ} 0 1 = c
 
 -- ---- an accepted image refuses no frame
 
-good-step : (f : F) (st : Counts) → ((k : ℕ) → frame_step st (shape f) ≡ No k → ⊥) → good f ≡ true
+good-step : (f : F) (st : Counts) → ((k : ReadError) → frame_step st (shape f) ≡ No k → ⊥) → good f ≡ true
 unfolding frame_step shape
 good-step (opens r p) st e = refl
 good-step (const k w) st e = refl
@@ -209,14 +210,14 @@ good-step (ends m) st e = refl
 good-step (bad k) st e = absurd (e k refl)
 good-step (desc k n) st e = refl
 
-good-end : (fs : List F) (p n q : ℕ) → at_end p n fs ≡ Accepted q → AllGood fs
+good-end : (fs : List F) (p n q : ℕ) → at_end p n fs ≡ Ok q → AllGood fs
 unfolding at_end
 good-end [] p n q e = no
 good-end (f ∷ fs) p n q e = let z : ◌≡◌ {A = ℕ} 0 1 = cc in absurd (omega arith)
 
 by-step : (f : F) (fs : List F) (st : Counts) (n q : ℕ) (u : Step) → frame_step st (shape f) ≡ u
-    → judge_after u st.protos n fs (λ t. judge_frames t (n + 1) fs) ≡ Accepted q
-    → ((t : Counts) → judge_frames t (n + 1) fs ≡ Accepted q → AllGood fs) → AllGood (f ∷ fs)
+    → judge_after u st.protos n fs (λ t. judge_frames t (n + 1) fs) ≡ Ok q
+    → ((t : Counts) → judge_frames t (n + 1) fs ≡ Ok q → AllGood fs) → AllGood (f ∷ fs)
 unfolding judge_after
 by-step f fs st n q (On t) r e ih =
     and (good-step f st (λ k h. let z : ◌≡◌ {A = ℕ} 0 1 = cc in omega arith)) (ih t e)
@@ -224,25 +225,25 @@ by-step f fs st n q Done r e ih =
     and (good-step f st (λ k h. let z : ◌≡◌ {A = ℕ} 0 1 = cc in omega arith)) (good-end fs _ _ _ e)
 by-step f fs st n q (No k) r e ih = let z : ◌≡◌ {A = ℕ} 0 1 = cc in absurd (omega arith)
 
-judge-good : (fs : List F) (st : Counts) (n q : ℕ) → judge_frames st n fs ≡ Accepted q → AllGood fs
+judge-good : (fs : List F) (st : Counts) (n q : ℕ) → judge_frames st n fs ≡ Ok q → AllGood fs
 unfolding judge_frames
 judge-good [] st n q e = no
 judge-good (f ∷ fs) st n q e =
     by-step f fs st n q (frame_step st (shape f)) refl e (λ t. judge-good fs t (n + 1) q)
 
-trip : (s : List ℕ) (q : ℕ) → judge_of s ≡ Accepted q → (written (frames_of s) ≡ s) × AllSaid (frames_of s)
+trip : (s : List ℕ) (q : ℕ) → judge_of s ≡ Ok q → (written (frames_of s) ≡ s) × AllSaid (frames_of s)
 unfolding frames_of judge_of
 trip s q =
-    cond_cases (λ (j : Judged). j ≡ Accepted q → (written (map line_frame (lines s)) ≡ s) × AllSaid (map line_frame (lines s))) (ltb 65536 (length s)) _ _
+    cond_cases (λ (j : Judged). j ≡ Ok q → (written (map line_frame (lines s)) ≡ s) × AllSaid (map line_frame (lines s))) (ltb 65536 (length s)) _ _
     (λ h e. let z : ◌≡◌ {A = ℕ} 0 1 = too_long e in absurd (omega arith))
     (λ h e. let r = written-lines (lines s) (judge-good (map line_frame (lines s)) start 0 q e) in (r.0 ∙ joined-lines s, r.1))
   where
-    too_long : Refused 3 0 ≡ Accepted q → ◌≡◌ {A = ℕ} 0 1
+    too_long : refused PastLimit 0 ≡ Ok q → ◌≡◌ {A = ℕ} 0 1
     too_long e = cc
 
-pub round_trip : (s : List ℕ) (q : ℕ) → judge_of s ≡ Accepted q → written (frames_of s) ≡ s
+pub round_trip : (s : List ℕ) (q : ℕ) → judge_of s ≡ Ok q → written (frames_of s) ≡ s
 round_trip s q e = (trip s q e).0
 
 -- its frames are such as lines can say
-pub accepted_said : (s : List ℕ) (q : ℕ) → judge_of s ≡ Accepted q → AllSaid (frames_of s)
+pub accepted_said : (s : List ℕ) (q : ℕ) → judge_of s ≡ Ok q → AllSaid (frames_of s)
 accepted_said s q e = (trip s q e).1

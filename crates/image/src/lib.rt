@@ -7,7 +7,29 @@ ghost use Rattle.image.specs.Instruction.{packed, operation_of, flags_of, a_of, 
 ghost use Rattle.image.specs.Judge.{const_step, code_step, desc_step, frame_step};
 ghost use Rattle.image.specs.Frames.{payload, most_of};
 
-// A line's frame. A string's bytes stay in the line; a frame that is none is Bad, with the refusal's number.
+// What an image is refused for, with the documents' numbers.
+#[derive(Clone, Copy, Debug, PartialEq, Eq)]
+pub enum ReadError {
+    // A line is empty, is no lowercase hexadecimal digits in pairs, or lacks its LF.
+    BrokenLine = 1,
+    // A line says nothing that a frame can say, or a frame that may not stand there.
+    BadFrame = 2,
+    // A limit is passed.
+    PastLimit = 3,
+    // There is no last frame, or a byte after it.
+    WrongEnd = 4,
+    // The lent slices are too short.
+    ShortStorage = 5,
+}
+
+// An image is refused: for what, and at which line.
+#[derive(Clone, Copy, Debug, PartialEq, Eq)]
+pub struct ReadRefusal {
+    pub error: ReadError,
+    pub line: usize,
+}
+
+// A line's frame. A string's bytes stay in the line; a frame that is none is Bad.
 #[derive(Clone, Copy)]
 pub enum Frame {
     // Registers, parameters.
@@ -20,7 +42,7 @@ pub enum Frame {
     Code(u64),
     // The number of prototypes.
     End(u8),
-    Bad(u8),
+    Bad(ReadError),
     // A descriptor: its kind (0 a register of the parent, 1 an upvalue of it) and its number.
     Desc(u8, u8),
 }
@@ -39,14 +61,7 @@ pub struct Counts {
 pub enum Step {
     On(Counts),
     Done,
-    No(u8),
-}
-
-// What becomes of an image: accepted with its number of prototypes, or refused with the number and the line.
-#[derive(Clone, Copy)]
-pub enum Judged {
-    Accepted(usize),
-    Refused(u8, usize),
+    No(ReadError),
 }
 
 fn const_step(st: Counts) -> Step
@@ -57,7 +72,7 @@ fn const_step(st: Counts) -> Step
     let k = st.codes;
     let d = st.descs;
     if p < 1 {
-        return Step::No(2);
+        return Step::No(ReadError::BadFrame);
     }
     if k == 0 {
         if c < 256 {
@@ -68,9 +83,9 @@ fn const_step(st: Counts) -> Step
                 descs: d,
             });
         }
-        return Step::No(3);
+        return Step::No(ReadError::PastLimit);
     }
-    Step::No(2)
+    Step::No(ReadError::BadFrame)
 }
 
 fn code_step(st: Counts) -> Step
@@ -81,7 +96,7 @@ fn code_step(st: Counts) -> Step
     let k = st.codes;
     let d = st.descs;
     if p < 1 {
-        return Step::No(2);
+        return Step::No(ReadError::BadFrame);
     }
     if k < 4096 {
         return Step::On(Counts {
@@ -91,7 +106,7 @@ fn code_step(st: Counts) -> Step
             descs: d,
         });
     }
-    Step::No(3)
+    Step::No(ReadError::PastLimit)
 }
 
 fn desc_step(st: Counts) -> Step
@@ -102,7 +117,7 @@ fn desc_step(st: Counts) -> Step
     let k = st.codes;
     let d = st.descs;
     if p < 1 {
-        return Step::No(2);
+        return Step::No(ReadError::BadFrame);
     }
     if c == 0 {
         if k == 0 {
@@ -114,11 +129,11 @@ fn desc_step(st: Counts) -> Step
                     descs: d + 1,
                 });
             }
-            return Step::No(3);
+            return Step::No(ReadError::PastLimit);
         }
-        return Step::No(2);
+        return Step::No(ReadError::BadFrame);
     }
-    Step::No(2)
+    Step::No(ReadError::BadFrame)
 }
 
 // One frame more.
@@ -136,7 +151,7 @@ pub fn step_on(st: Counts, f: Frame) -> Step
                     descs: 0,
                 });
             }
-            Step::No(3)
+            Step::No(ReadError::PastLimit)
         }
         Frame::Const(_, _) => const_step(st),
         Frame::Str(_) => const_step(st),
@@ -146,7 +161,7 @@ pub fn step_on(st: Counts, f: Frame) -> Step
             if (n as usize) == p {
                 return Step::Done;
             }
-            Step::No(2)
+            Step::No(ReadError::BadFrame)
         }
         Frame::Bad(k) => Step::No(k),
         Frame::Desc(_, _) => desc_step(st),

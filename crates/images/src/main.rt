@@ -12,10 +12,9 @@
 
 ghost use Rattle.std.specs.Prelude.{◌<◌, ◌≤◌, length, IfOk};
 
-use image::Judged;
+use image::ReadRefusal;
 use std::io;
-use std::io::Read;
-use writer::Wrote;
+use writer::WriteRefusal;
 
 // The room for an image: a byte more than may be read, and some.
 const ROOM: usize = 65600;
@@ -59,27 +58,27 @@ fn print(rt: &impl Print, x: u64) -> io::Result<()> {
     print!(rt; "{x} ")
 }
 
-fn print_answer(rt: &impl Print, r: Judged) -> io::Result<()> {
+fn print_answer(rt: &impl Print, r: Result<usize, ReadRefusal>) -> io::Result<()> {
     match r {
-        Judged::Accepted(n) => {
+        Ok(n) => {
             print(rt, 0)?;
             print(rt, n as u64)
         }
-        Judged::Refused(k, n) => {
-            print(rt, k as u64)?;
-            print(rt, n as u64)
+        Err(refusal) => {
+            print(rt, refusal.error as u64)?;
+            print(rt, refusal.line as u64)
         }
     }
 }
 
-fn print_wrote(rt: &impl Print, r: Wrote) -> io::Result<()> {
+fn print_wrote(rt: &impl Print, r: Result<usize, WriteRefusal>) -> io::Result<()> {
     match r {
-        Wrote::Bytes(n) => {
+        Ok(n) => {
             print(rt, 0)?;
             print(rt, n as u64)
         }
-        Wrote::Refused(k) => {
-            print(rt, k as u64)?;
+        Err(refusal) => {
+            print(rt, refusal as u64)?;
             print(rt, 0)
         }
     }
@@ -101,8 +100,8 @@ fn said(b: u8) -> u8 {
 fn put_said(line: &[u8], image: &mut [u8], top: usize, n: usize) {
     let mut i = 0;
     while i < n {
-        let b = slices::byte_at(line, 6, i);
-        slices::put_byte(image, top, i, said(b));
+        let b = slices::get(line, 6, i);
+        slices::put(image, top, i, said(b));
         i += 1;
     }
 }
@@ -126,7 +125,7 @@ fn append(line: &[u8], image: &mut [u8], top: usize) -> usize {
         return top;
     }
     put_said(line, image, top, n);
-    slices::copy_bytes(image, top, top + n, n * (count - 1));
+    slices::copy_within(image, top, top + n, n * (count - 1));
     top + n * count
 }
 
@@ -252,7 +251,7 @@ fn run(rt: &impl Print, image: &[u8], n: usize, line: &[u8]) -> io::Result<()> {
 
 // One line; how long the image is then.
 fn play_line(rt: &impl Print, line: &[u8], image: &mut [u8], top: usize) -> io::Result<usize> {
-    let kind = slices::byte_at(line, 0, 0);
+    let kind = slices::get(line, 0, 0);
     if kind == b'#' {
         rt.write_all(line)?;
         rt.println("")?;
@@ -276,20 +275,9 @@ fn play(rt: &impl Print, s: &[u8], image: &mut [u8]) -> io::Result<()> {
     Ok(())
 }
 
-// Fills a buffer from the input, or as much of it as the input has. Answers how many bytes that is.
-fn read_full(rt: &impl Input, buffer: &mut [u8]) -> io::Result<usize>
-    ensures { IfOk result (λ n. n ≤ length buffer.new) }
-{
-    let room = buffer.len();
-    let mut rest = &mut buffer[..];
-    io::copy(&mut rt.reader().take(room as u64), &mut rest)?;
-    let left = rest.len();
-    Ok(room.saturating_sub(left))
-}
-
 fn main(rt: HostRuntime) -> io::Result<()> {
     let mut list = [0u8; 393216];
     let mut image = [0u8; 65600];
-    let n = read_full(&rt, &mut list)?;
+    let n = lists::read_full(&rt, &mut list)?;
     play(&rt, &list[..n], &mut image)
 }

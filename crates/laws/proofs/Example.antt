@@ -12,20 +12,19 @@ use Rattle.choices.proofs.Choices.{by_bool, cond-true}
 use Rattle.image.specs.Hex.{digit_of, paired, bytes_of, word_from}
 use Rattle.image.specs.Lines.{onto, lines}
 use Rattle.image.specs.Frames.{F, opens, const, code, ends, shape, open_bytes, payload, most_of, word_bytes_of, const_bytes, code_bytes, end_bytes, kind_bytes, frame_of, line_frame, frames_of}
+use Rattle.std.specs.Prelude.{Ok}
 use Rattle.image.specs.Judge.{const_step, code_step, frame_step, at_end, judge_after, judge_frames, judge_of}
-use Rattle.image.specs.declared.Judged.TheVariants as judged
 use Rattle.storage.specs.Layout.{Storage, entry_of, codes_of, kinds_of, entries_all, codes_all, descriptors_ahead, described, laid_in, table_size, long_enough}
 use Rattle.storage.specs.Stored.{ReadsTo}
 use Rattle.reader.specs.Reading.{read_of, left_of}
 use Rattle.reader.proofs.Contents.{reads-to}
-use Rattle.writer.specs.Writing.{write_of, out_of, Written}
-use Rattle.writer.specs.declared.Wrote.{Wrote}
+use Rattle.writer.specs.Writing.{Wrote, write_of, out_of, Written}
 use Rattle.writer.proofs.RoundTrip.{left-long, read-written}
 use Rattle.checker.specs.Operations.{shape_of, next_of}
 use Rattle.checker.specs.Rules.{carried, tidy, registers_in, constants_in, inside, all_inside, targets_in, prototype_in_image, upvalues_in}
 use Rattle.checker.specs.Captures.{bare_at}
 use Rattle.checker.specs.Check.{check_of}
-use Rattle.checker.specs.declared.Checked.TheVariants.{Accepted}
+use Rattle.std.specs.Prelude.{Ok}
 use Rattle.checker.specs.Kept.{KeptAt, Sound, Demanded}
 use Rattle.checker.proofs.Exact.{exact}
 use Rattle.choices.specs.Below.{all_below}
@@ -39,7 +38,7 @@ frames_are : frames_of session_image ≡ frames
 unfolding session_image frames_of line_frame frame_of kind_bytes end_bytes code_bytes const_bytes word_bytes_of most_of payload open_bytes lines onto word_from bytes_of paired digit_of
 frames_are = refl
 
-image_accepted : judge_of session_image ≡ judged.Accepted 1
+image_accepted : judge_of session_image ≡ Ok 1
 unfolding judge_of judge_frames judge_after at_end frame_step code_step const_step shape session_image frames_of line_frame frame_of kind_bytes end_bytes code_bytes const_bytes word_bytes_of most_of payload open_bytes lines onto word_from bytes_of paired digit_of
 image_accepted = refl
 
@@ -100,7 +99,7 @@ demanded lent l =
       each = sound (set (drop 9 lent.table) 124 0) (drop 2 lent.code) (get_or-set_same (drop 9 lent.table) 124 0 0 g);
     }
 
-accepted : (lent : Storage) → long_enough lent ≡ true → check_of (session_in lent) ≡ Accepted
+accepted : (lent : Storage) → long_enough lent ≡ true → check_of (session_in lent) ≡ Ok tt
 accepted lent l = ap check_of (plain-is lent) ∙ (exact (plain lent)).1 (demanded lent l)
 
 -- ---- started

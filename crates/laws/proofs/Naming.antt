@@ -13,10 +13,9 @@ use Rattle.constant.specs.Named.{first_unfit}
 use Rattle.constant.specs.Operators.{is_numeric, add_of, subtract_of}
 use Rattle.comparison.specs.Comparison.{less_than_of, less_equal_of, past_end_of}
 use Rattle.constant.specs.declared.Value.{Value}
-use Rattle.constant.specs.declared.Answer.{Answer}
-use Rattle.constant.specs.declared.Answer.TheVariants.{Is, Raises}
-use Rattle.comparison.specs.declared.Compared.{Compared}
-use Rattle.comparison.specs.declared.Compared.TheVariants as compared
+use Rattle.std.specs.Prelude.{Ok, Err}
+use Rattle.constant.specs.Operators.{Answer}
+use Rattle.comparison.specs.Comparison.{Compared}
 use Rattle.checker.specs.Operations.{shape_at}
 use Rattle.checker.specs.Decode.{decode_of, class_of}
 use Rattle.checker.specs.Check.{site_of}
@@ -73,13 +72,13 @@ Tells i (Capture dest q) = i ≡ instruction.Closure dest q
 module _ (i : Instruction) where
   stored-tells : (r : ℕ) (go : Go) (a : Answer) → Tells i (stored r go a)
   unfolding stored
-  stored-tells r go (Is v) = tt
-  stored-tells r go (Raises e named) = tt
+  stored-tells r go (Ok v) = tt
+  stored-tells r go (Err e) = tt
 
   decided-tells : (b : Bool) (c : Compared) → Tells i (decided b c)
   unfolding decided skip_if
-  decided-tells b (compared.Decided d) = tt
-  decided-tells b (compared.Raises e named) = tt
+  decided-tells b (Ok d) = tt
+  decided-tells b (Err e) = tt
 
   unary_tells : (words texts : List ℕ) (u : Unary) (r k w : ℕ) → Tells i (unary_effect words texts u r k w)
   unfolding unary_effect
@@ -100,8 +99,8 @@ module _ (i : Instruction) where
 
   loop-with-tells : (limit step : Value) (r t : ℕ) (a : Answer) → Tells i (loop_with limit step r t a)
   unfolding loop_with
-  loop-with-tells limit step r t (Is v) = cond_cases (Tells i) (past_end_of v limit step) _ _ (λ _. tt) (λ _. tt)
-  loop-with-tells limit step r t (Raises e named) = tt
+  loop-with-tells limit step r t (Ok v) = cond_cases (Tells i) (past_end_of v limit step) _ _ (λ _. tt) (λ _. tt)
+  loop-with-tells limit step r t (Err e) = tt
 
   prep_tells : (index step : Value) (r t : ℕ) → Tells i (prep_effect index step r t)
   unfolding prep_effect

@@ -8,10 +8,7 @@ use lib.IntN.{ℤ}
 use lib.Ieee.{Float}
 use Rattle.choices.proofs.Choices.{cond_cases}
 use Rattle.integer.specs.Floor.{quotient, modulus}
-use Rattle.integer.specs.declared.Divided.{Divided}
-use Rattle.integer.specs.declared.Divided.TheVariants as division
-use Rattle.number.specs.declared.Whole.{Whole}
-use Rattle.number.specs.declared.Whole.TheVariants.{Exact, NotWhole}
+use Rattle.std.specs.Prelude.{Option, Some, None, Ok, Err}
 use Rattle.constant.specs.Values.{kind_of, word_of, is_value}
 use Rattle.constant.specs.Named.{first_unfit}
 use Rattle.constant.specs.Operators.{is_numeric, unfit_numeric, unfit_whole, operands, arithmetic, divided, negate_of, whole_of, integers, bitwise, not_whole, bit_not_of, add_of, subtract_of}
@@ -19,12 +16,9 @@ use Rattle.comparison.specs.Comparison.{past_end_of}
 use Rattle.constant.specs.declared.Value.{Value}
 use Rattle.constant.specs.declared.Value.TheVariants.{Nil, Boolean, Integer, Number, String, Function}
 use Rattle.constant.specs.declared.BinaryOperatorError.{BinaryOperatorError}
-use Rattle.constant.specs.declared.Answer.{Answer}
-use Rattle.constant.specs.declared.Answer.TheVariants.{Is, Raises}
+use Rattle.constant.specs.Operators.{Answer}
 use Rattle.constant.specs.declared.Operands.{Operands}
 use Rattle.constant.specs.declared.Operands.TheVariants as operand
-use Rattle.constant.specs.declared.Integers.{Integers}
-use Rattle.constant.specs.declared.Integers.TheVariants as whole
 use Rattle.checker.specs.declared.Binary.{Binary}
 use Rattle.checker.specs.declared.Binary.TheVariants as binary
 use Rattle.storage.specs.Layout.{Storage}
@@ -56,22 +50,22 @@ plain_fits table kinds frames (Function n) p = absurd p
 -- ---- the operators
 
 abbrev pub PlainAnswer : Answer → Type 0
-PlainAnswer (Is v) = Plain v
-PlainAnswer (Raises e named) = Unit {0}
+PlainAnswer (Ok v) = Plain v
+PlainAnswer (Err e) = Unit {0}
 
 arithmetic-plain : (f : ℤ → ℤ → Answer) (g : Float → Float → Float) (e : BinaryOperatorError) (a b : Value) → ((x y : ℤ) → PlainAnswer (f x y))
-    → (o : Operands) → PlainAnswer (arithmetic f g (unfit_numeric e a b) o)
-arithmetic-plain f g e a b h (operand.Integers x y) = h x y
-arithmetic-plain f g e a b h (operand.Numbers x y) = tt
-arithmetic-plain f g e a b h operand.Unfit = tt
+    → (o : Option Operands) → PlainAnswer (arithmetic f g (unfit_numeric e a b) o)
+arithmetic-plain f g e a b h (Some (operand.Integers x y)) = h x y
+arithmetic-plain f g e a b h (Some (operand.Numbers x y)) = tt
+arithmetic-plain f g e a b h None = tt
 
-divided-plain : (d : Divided) (e : BinaryOperatorError) → PlainAnswer (divided d e)
-divided-plain (division.Is q) e = tt
-divided-plain division.ByZero e = tt
+divided-plain : (d : Option ℤ) (e : BinaryOperatorError) → PlainAnswer (divided d e)
+divided-plain (Some q) e = tt
+divided-plain None e = tt
 
-bitwise-plain : (f : ℤ → ℤ → ℤ) (e : BinaryOperatorError) (a b : Value) (i : Integers) → PlainAnswer (bitwise f (unfit_whole e a b) i)
-bitwise-plain f e a b (whole.Both x y) = tt
-bitwise-plain f e a b whole.Unfit = tt
+bitwise-plain : (f : ℤ → ℤ → ℤ) (e : BinaryOperatorError) (a b : Value) (i : Option (ℤ × ℤ)) → PlainAnswer (bitwise f (unfit_whole e a b) i)
+bitwise-plain f e a b (Some (x, y)) = tt
+bitwise-plain f e a b None = tt
 
 pub negate-plain : (v : Value) → PlainAnswer (negate_of v)
 negate-plain Nil = tt
@@ -81,9 +75,9 @@ negate-plain (Number x) = tt
 negate-plain (String n) = tt
 negate-plain (Function n) = tt
 
-whole_plain : (w : Whole) → PlainAnswer (not_whole w)
-whole_plain (Exact x) = tt
-whole_plain NotWhole = tt
+whole_plain : (w : Option ℤ) → PlainAnswer (not_whole w)
+whole_plain (Some x) = tt
+whole_plain None = tt
 
 pub bit-not-plain : (v : Value) → PlainAnswer (bit_not_of v)
 bit-not-plain v = whole_plain (whole_of v)
@@ -113,8 +107,8 @@ binary_plain binary.ShiftRight a b = bitwise-plain _ _ a b (integers a b)
 module _ (S : Storage) (f : List ℕ) where
   pub stored-holds : (dest : ℕ) (go : Go) (a : Answer) → PlainAnswer a → Holds S f (stored dest go a)
   unfolding stored
-  stored-holds dest go (Is v) p = plain_fits S.table S.kinds f v p
-  stored-holds dest go (Raises e named) p = tt
+  stored-holds dest go (Ok v) p = plain_fits S.table S.kinds f v p
+  stored-holds dest go (Err e) p = tt
 
   pub prep_holds : (index step : Value) (base target : ℕ) → Holds S f (prep_effect index step base target)
   unfolding prep_effect
@@ -124,10 +118,10 @@ module _ (S : Storage) (f : List ℕ) where
 
   turn_holds : (limit step : Value) (base target : ℕ) (a : Answer) → PlainAnswer a → Holds S f (loop_with limit step base target a)
   unfolding loop_with
-  turn_holds limit step base target (Is v) p =
+  turn_holds limit step base target (Ok v) p =
       let h = plain_fits S.table S.kinds f v p in
       cond_cases (Holds S f) (past_end_of v limit step) _ _ (λ e. h) (λ e. h)
-  turn_holds limit step base target (Raises e named) p = tt
+  turn_holds limit step base target (Err e) p = tt
 
   pub loop-holds : (index limit step : Value) (base target : ℕ) → Holds S f (loop_effect index limit step base target)
   unfolding loop_effect

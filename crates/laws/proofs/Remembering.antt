@@ -3,7 +3,7 @@ use mathlib.Core.Path.{◌≡◌, refl}
 use mathlib.Core.Bool.{true}
 use Rattle.checker.specs.Check.{check_of}
 use Rattle.checker.specs.Decode.{binary_of, left_operand, right_operand}
-use Rattle.checker.specs.declared.Checked.TheVariants.{Accepted}
+use Rattle.std.specs.Prelude.{Ok}
 use Rattle.effects.specs.Effects.{binary_answer}
 use Rattle.fitness.specs.Fit.{fit_of}
 use Rattle.step.specs.Run.{outcome, run_of}
@@ -11,7 +11,7 @@ use Rattle.worked.specs.Computing.{machine_computes}
 use Rattle.laws.specs.Examples.{running}
 use Rattle.laws.specs.Sharing.{content_at, helpers, Remembered}
 
-accepted : check_of helpers ≡ Accepted
+accepted : check_of helpers ≡ Ok tt
 unfolding machine_computes
 accepted = refl
 

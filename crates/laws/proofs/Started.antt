@@ -14,8 +14,9 @@ use Rattle.constant.specs.Values.{is_value}
 use Rattle.storage.proofs.Six.{readable_back}
 use Rattle.checker.specs.Check.{check_of}
 use Rattle.checker.specs.Kept.{Demanded}
-use Rattle.checker.specs.declared.Checked.{Checked}
-use Rattle.checker.specs.declared.Checked.TheVariants.{Accepted, Refused}
+use Rattle.std.specs.Prelude.{Ok, Err}
+use Rattle.checker.specs.Check.{Checked}
+use Rattle.checker.specs.declared.Refusal.{Refusal}
 use Rattle.checker.proofs.Exact.{exact}
 use Rattle.state.specs.Frames.{mark_in, operand_in, depth_in, prototype_in, instruction_in, base_of, mark_with, depth_with, opened_with}
 use Rattle.state.specs.Window.{fewer, window_from}
@@ -40,31 +41,31 @@ use Rattle.laws.proofs.Fitting.{runs_by}
 
 -- ---- what an accepted start has found
 
-refused-apart : (n q i : ℕ) (s t : State) → started (Refused n q i) s ≡ started Accepted t → ⊥
-refused-apart n q i s t e =
-    let a : Refused n q i ≡ Accepted = ap (λ (x : Started). x.answer) e in
+refused-apart : (e : Refusal) (s t : State) → started (Err e) s ≡ started (Ok tt) t → ⊥
+refused-apart r s t e =
+    let a : ◌≡◌ {A = Checked} (Err r) (Ok tt) = ap (λ (x : Started). x.answer) e in
     let z : ◌≡◌ {A = ℕ} 0 1 = cc in
     omega arith
 
 module _ (S : Storage) (arg_kinds arg_words : List ℕ) (s t : State) where
   record Passed : Type 0 where
     long : state_long s ≡ true
-    accepted : check_of S ≡ Accepted
+    accepted : check_of S ≡ Ok tt
     arguments : permitted arg_kinds arg_words ≡ true
     left : t ≡ begun S.table arg_kinds arg_words s
 
   passed : Begun S arg_kinds arg_words s t → Passed
   unfolding start_of checked_start
   passed e =
-      by_bool (state_long s) (λ l. by-check l (check_of S) refl (rw l at e)) (λ l. absurd (refused-apart 5 0 0 s t (rw l at e)))
+      by_bool (state_long s) (λ l. by-check l (check_of S) refl (rw l at e)) (λ l. absurd (refused-apart _ s t (rw l at e)))
     where
       by-check :
-          state_long s ≡ true → (c : Checked) → check_of S ≡ c → checked_start c S.table arg_kinds arg_words s ≡ started Accepted t → Passed
-      by-check l Accepted c e =
+          state_long s ≡ true → (c : Checked) → check_of S ≡ c → checked_start c S.table arg_kinds arg_words s ≡ started (Ok tt) t → Passed
+      by-check l (Ok u) c e =
           by_bool (permitted arg_kinds arg_words)
           (λ p. record { long = l; accepted = c; arguments = p; left = sym (ap (λ (x : Started). x.state) (rw p at e)) })
-          (λ p. absurd (refused-apart 20 0 0 s t (rw p at e)))
-      by-check l (Refused n q i) c e = absurd (refused-apart n q i s t e)
+          (λ p. absurd (refused-apart _ s t (rw p at e)))
+      by-check l (Err r) c e = absurd (refused-apart r s t e)
 
 -- ---- arguments
 

@@ -8,8 +8,8 @@ use Rattle.storage.specs.Layout.{Storage}
 use Rattle.constant.specs.declared.Value.{Value}
 use Rattle.constant.specs.declared.Value.TheVariants.{Nil, Integer}
 use Rattle.checker.specs.Check.{check_of}
-use Rattle.checker.specs.declared.Checked.{Checked}
-use Rattle.checker.specs.declared.Checked.TheVariants.{Accepted}
+use Rattle.std.specs.Prelude.{Ok}
+use Rattle.checker.specs.Check.{Checked}
 use Rattle.checker.specs.declared.Instruction.{Instruction}
 use Rattle.checker.specs.declared.Instruction.TheVariants as instruction
 use Rattle.state.specs.Frames.{mark_in, depth_in, prototype_in, instruction_in}
@@ -56,7 +56,7 @@ look_at S L s =
 abbrev pub right : LoopAt → ℤ → ℤ → ℤ → Look
 right L start limit step =
     record {
-      accepted = Accepted;
+      accepted = Ok tt;
       fit = true;
       mark = 70;
       depth = L.depth;

@@ -12,9 +12,8 @@ use Rattle.constant.specs.Values.{is_value, value_of, truth, not_of}
 use Rattle.constant.specs.Operators.{negate_of, bit_not_of}
 use Rattle.comparison.specs.Comparison.{is_equal_of, less_than_of, less_equal_of}
 use Rattle.constant.specs.declared.Value.{Value}
-use Rattle.constant.specs.declared.Answer.TheVariants.{Is}
-use Rattle.comparison.specs.declared.Compared.{Compared}
-use Rattle.comparison.specs.declared.Compared.TheVariants as compared
+use Rattle.std.specs.Prelude.{Ok, Err}
+use Rattle.comparison.specs.Comparison.{Compared}
 use Rattle.checker.specs.Check.{limits_of}
 use Rattle.checker.specs.declared.Unary.{Unary}
 use Rattle.checker.specs.declared.Unary.TheVariants as unary
@@ -50,7 +49,7 @@ module _ (S : Storage) (f : List ℕ) where
     unary_holds : (u : Unary) (dest : ℕ) → Holds S f (unary_effect S.words S.texts u dest kind word)
     unfolding unary_effect
     unary_holds unary.Move dest = fits
-    unary_holds unary.Not dest = stored-holds S f dest _ (Is (not_of (value_of kind word))) tt
+    unary_holds unary.Not dest = stored-holds S f dest _ (Ok (not_of (value_of kind word))) tt
     unary_holds unary.Minus dest = stored-holds S f dest _ (negate_of (figured (value_of kind word))) (negate-plain (figured (value_of kind word)))
     unary_holds unary.BitNot dest = stored-holds S f dest _ (bit_not_of (figured (value_of kind word))) (bit-not-plain (figured (value_of kind word)))
 
@@ -65,8 +64,8 @@ module _ (S : Storage) (f : List ℕ) where
 
   decided-holds : (byte : Bool) (c : Compared) → Holds S f (decided byte c)
   unfolding decided
-  decided-holds byte (compared.Decided b) = skip-holds b byte
-  decided-holds byte (compared.Raises e named) = tt
+  decided-holds byte (Ok b) = skip-holds b byte
+  decided-holds byte (Err e) = tt
 
   compare-holds : (words texts : List ℕ) (c : Compare) (byte : Bool) (a b : Value) → Holds S f (compare_effect words texts c byte a b)
   unfolding compare_effect

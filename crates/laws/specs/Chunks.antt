@@ -1,12 +1,11 @@
 -- "Every chunk number, each once": document 02, 4/12, as statements; proofs/Laws has a proof of each. Assumes nothing.
-use Rattle.std.specs.Prelude.{Bool, true, false, cond, ◌≡◌, List, [], ◌∷◌, ◌++◌, ℕ, suc, ◌+◌, ◌-◌, ◌^◌, ◌≤◌, ◌<◌, length, get_or, take, ℤ, pos, neg_ℤ, ◌+ℤ◌, ◌-ℤ◌, ◌*ℤ◌, ◌≤ℤ◌, ◌<ℤ◌}
+use Rattle.std.specs.Prelude.{Bool, true, false, cond, ◌≡◌, List, [], ◌∷◌, ◌++◌, ℕ, suc, ◌+◌, ◌-◌, ◌^◌, ◌≤◌, ◌<◌, length, get_or, take, ℤ, pos, neg_ℤ, ◌+ℤ◌, ◌-ℤ◌, ◌*ℤ◌, ◌≤ℤ◌, ◌<ℤ◌, Ok}
 use Rattle.std.specs.Int.Signed.{lt_z}
 use Rattle.integer.specs.Floor.{floor_q}
 use Rattle.storage.specs.Layout.{Storage}
 use Rattle.constant.specs.declared.Value.{Value}
 use Rattle.constant.specs.declared.Value.TheVariants.{Nil, Integer}
 use Rattle.checker.specs.Check.{check_of}
-use Rattle.checker.specs.declared.Checked.TheVariants.{Accepted}
 use Rattle.state.specs.Frames.{mark_in}
 use Rattle.state.specs.States.{State}
 use Rattle.fitness.specs.Fit.{fit_of}
@@ -29,7 +28,7 @@ pub data Chunks (limit step : ℤ) : ℤ → List Value → Type 0 where
 
 -- "For integer start, limit and .. step, Prep jumping to a NumericForLoop of the same base, in an accepted image": of any fit state that is running
 pub record Setting (S : Storage) (L : LoopAt) (s : State) (start limit step : ℤ) : Type 0 where
-  pub accepted : check_of S ≡ Accepted
+  pub accepted : check_of S ≡ Ok tt
   pub fit : fit_of S s ≡ true
   pub running : mark_in s.frames ≡ 70
   pub prepares : Prepares S L s
@@ -180,7 +179,7 @@ pub record Carried (S : Storage) (s : State) (n : ℕ) (t : State) : Type 0 wher
 
 abbrev pub RunsCarry : Type 0
 RunsCarry =
-    (S : Storage) (s t : State) (n : ℕ) → check_of S ≡ Accepted → fit_of S s ≡ true → mark_in s.frames ≡ 70 → Steps S s n t
+    (S : Storage) (s t : State) (n : ℕ) → check_of S ≡ Ok tt → fit_of S s ≡ true → mark_in s.frames ≡ 70 → Steps S s n t
     → Carried S s n t
 
 -- number i of a story, in runs: after k + steps in all a pass has just begun, and register base + 3 holds that number

@@ -1,11 +1,9 @@
 -- The session of 01, as an image that is read, written back, accepted, started and run in parts: what each law asks for can be had. Assumes nothing.
-use Rattle.std.specs.Prelude.{true, ◌≡◌, List, [], ◌∷◌, ℕ, ◌≤◌, length}
-use Rattle.image.specs.declared.Judged.TheVariants as judged
+use Rattle.std.specs.Prelude.{true, ◌≡◌, List, [], ◌∷◌, ℕ, ◌≤◌, length, Ok}
 use Rattle.image.specs.Frames.{frames_of}
 use Rattle.storage.specs.Layout.{Storage, laid, laid_in, long_enough}
 use Rattle.reader.specs.Reading.{Read}
 use Rattle.writer.specs.Writing.{Written}
-use Rattle.writer.specs.declared.Wrote.TheVariants.{Bytes}
 use Rattle.state.specs.States.{State, state_long}
 use Rattle.starter.specs.Start.{begun}
 use Rattle.laws.specs.Statements.{Begun, Resumable}
@@ -31,12 +29,12 @@ SessionStarts =
 
 -- the reader accepts it, and the writer writes it back: what the round trip asks for
 abbrev pub SessionReads : Type 0
-SessionReads = (lent : Storage) → long_enough lent ≡ true → Read session_image (judged.Accepted 1) lent (session_in lent)
+SessionReads = (lent : Storage) → long_enough lent ≡ true → Read session_image (Ok 1) lent (session_in lent)
 
 abbrev pub SessionWritten : Type 0
 SessionWritten =
     (lent : Storage) (out : List ℕ) → long_enough lent ≡ true → length session_image ≤ length out
-    → Written (session_in lent) (Bytes (length session_image)) out (laid session_image out)
+    → Written (session_in lent) (Ok (length session_image)) out (laid session_image out)
 
 -- after a run on any budget it can be run on: what a + b of any image asks for
 abbrev pub SessionResumes : Type 0

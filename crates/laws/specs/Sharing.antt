@@ -1,5 +1,5 @@
 -- What closures share: document 02, 6/12, as statements of every fit state; proofs/Laws has a proof of each. Assumes nothing.
-use Rattle.std.specs.Prelude.{true, ◌↔◌, ◌⊎◌, ◌≡◌, List, [], ◌∷◌, ℕ, ◌+◌, ◌-◌, ◌<◌, ◌≤◌, get_or, set}
+use Rattle.std.specs.Prelude.{true, ◌↔◌, ◌⊎◌, ◌≡◌, List, [], ◌∷◌, ℕ, ◌+◌, ◌-◌, ◌<◌, ◌≤◌, get_or, set, Ok}
 use Rattle.image.specs.Instruction.{packed}
 use Rattle.image.specs.Frames.{opens, const, code, ends, desc}
 use Rattle.storage.specs.Layout.{Storage}
@@ -7,7 +7,6 @@ use Rattle.storage.specs.Fields.{descriptors_of, descriptor_of}
 use Rattle.comparison.specs.Comparison.{is_equal_of}
 use Rattle.constant.specs.declared.Value.TheVariants.{Function}
 use Rattle.checker.specs.Check.{check_of}
-use Rattle.checker.specs.declared.Checked.TheVariants.{Accepted}
 use Rattle.checker.specs.declared.Instruction.{Instruction}
 use Rattle.checker.specs.declared.Instruction.TheVariants as instruction
 use Rattle.state.specs.Record.{innermost}
@@ -206,6 +205,6 @@ helpers =
 -- one "next" while the register is live and the cell open, one when it has returned and the cell is closed: 7 is told
 abbrev pub Remembered : Type 0
 Remembered =
-    (check_of helpers ≡ Accepted) × ((fit_of helpers running ≡ true)
+    (check_of helpers ≡ Ok tt) × ((fit_of helpers running ≡ true)
     × (((run_of helpers 21 running).answer ≡ outcome 0 21 0 4)
     × (content_at (run_of helpers 21 running).state 1 ≡ record { kind = 2; word = 7 })))

@@ -1,16 +1,12 @@
 -- What is demanded of every image, state, arguments and budgets, each as a statement of its own; proofs/Laws has a proof of each. Assumes nothing.
 -- The promises of `read`, `write`, `check`, `start` and `run` are the definitions that stand here: Read, Written, check_of, start_of, run_of.
-use Rattle.std.specs.Prelude.{true, ◌↔◌, ◌≡◌, List, [], ◌∷◌, ℕ, ◌+◌, ◌≤◌, ◌<◌, length, take}
-use Rattle.image.specs.declared.Judged.TheVariants as judged
+use Rattle.std.specs.Prelude.{true, ◌↔◌, ◌≡◌, List, [], ◌∷◌, ℕ, ◌+◌, ◌≤◌, ◌<◌, length, take, Ok}
 use Rattle.storage.specs.Layout.{Storage, laid, table_size, code_size, constant_size, text_size}
 use Rattle.storage.specs.Stored.{ReadsTo}
 use Rattle.reader.specs.Reading.{Read}
-use Rattle.writer.specs.Writing.{Written}
-use Rattle.writer.specs.declared.Wrote.{Wrote}
-use Rattle.writer.specs.declared.Wrote.TheVariants.{Bytes}
-use Rattle.checker.specs.Check.{check_of}
+use Rattle.writer.specs.Writing.{Wrote, Written}
+use Rattle.checker.specs.Check.{refused, check_of}
 use Rattle.checker.specs.Kept.{Demanded, FirstBad}
-use Rattle.checker.specs.declared.Checked.TheVariants.{Accepted, Refused}
 use Rattle.fitness.specs.Fit.{fit_of}
 use Rattle.state.specs.Marks.{is_lua_error}
 use Rattle.state.specs.States.{State, frames_size, registers_size}
@@ -36,28 +32,28 @@ Published = (sizes ≡ 421 ∷ 5041 ∷ 8448 ∷ 32768 ∷ 754 ∷ 2436 ∷ []) 
 
 abbrev pub RoundTrip : Type 0
 RoundTrip =
-    (image : List ℕ) (n : ℕ) (S S' : Storage) (r : Wrote) (out out' : List ℕ) → Read image (judged.Accepted n) S S'
-    → length image ≤ length out → Written S' r out out' → (r ≡ Bytes (length image)) × (out' ≡ laid image out)
+    (image : List ℕ) (n : ℕ) (S S' : Storage) (r : Wrote) (out out' : List ℕ) → Read image (Ok n) S S'
+    → length image ≤ length out → Written S' r out out' → (r ≡ Ok (length image)) × (out' ≡ laid image out)
 
 -- and what is written is an image that reads to this storage
 abbrev pub WrittenReads : Type 0
 WrittenReads =
-    (S : Storage) (n : ℕ) (out out' : List ℕ) → Written S (Bytes n) out out' → ReadsTo (take n out') S
+    (S : Storage) (n : ℕ) (out out' : List ℕ) → Written S (Ok n) out out' → ReadsTo (take n out') S
 
 -- ---- demand 3: "The checker accepts exactly the images that meet 01's list."
 
 abbrev pub Exact : Type 0
-Exact = (S : Storage) → (check_of S ≡ Accepted) ↔ Demanded S
+Exact = (S : Storage) → (check_of S ≡ Ok tt) ↔ Demanded S
 
 -- "stops at the first bad one, out of both; there the lowest number wins"
 abbrev pub FirstBadFound : Type 0
-FirstBadFound = (S : Storage) (n q i : ℕ) → 10 ≤ n → (check_of S ≡ Refused n q i) ↔ FirstBad S n q i
+FirstBadFound = (S : Storage) (n q i : ℕ) → 10 ≤ n → (check_of S ≡ refused n q i) ↔ FirstBad S n q i
 
 -- ---- demand 3: the checker accepts the image, the arguments are permitted, and whatever budgets follow
 
 -- t is the state that a start with these arguments left: it was accepted
 abbrev pub Begun : Storage → List ℕ → List ℕ → State → State → Type 0
-Begun S arg_kinds arg_words s t = start_of S arg_kinds arg_words s ≡ started Accepted t
+Begun S arg_kinds arg_words s t = start_of S arg_kinds arg_words s ≡ started (Ok tt) t
 
 -- the state after runs on these budgets, one after another
 unfoldable pub after_runs : Storage → List ℕ → State → State

@@ -1,10 +1,10 @@
 -- Lines, and the digits and numbers in them. A byte past the end is 0. Assumes nothing.
-use Rattle.std.specs.Prelude.{cond, List, [], ◌∷◌, ℕ, zero, suc, ◌+◌, ◌*◌, ◌/◌, ◌%◌, eqb, get_or}
+use Rattle.std.specs.Prelude.{List, ℕ, zero, suc, ◌+◌, ◌*◌, ◌/◌, ◌%◌, ◌==◌, not, get_or}
+use Rattle.std.specs.List.{prefix_len}
 
 -- how many elements stand before the first b; all of them where there is none
-unfoldable pub before : ℕ → List ℕ → ℕ
-before b [] = 0
-before b (x ∷ l) = cond (eqb x b) 0 (suc (before b l))
+abbrev pub before : ℕ → List ℕ → ℕ
+before b l = prefix_len (λ x. not (x == b)) l
 
 -- what a digit stands for, `0` to `9` or `a` to `f`; a number below 16 for any other byte too
 abbrev pub digit_value : ℕ → ℕ

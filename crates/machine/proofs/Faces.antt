@@ -6,23 +6,23 @@ use lib.ListN.{length, set}
 use lib.Dec.{leb}
 use borrow.Author.Tests.{le-leb, lt-leb}
 use mathlib.Core.Bool.{cond}
-use Rattle.image.specs.declared.Judged.{Judged}
+use Rattle.image.specs.Judge.{Judged}
 use Rattle.storage.specs.Layout.{Storage}
 use Rattle.reader.specs.Reading.{Read}
-use Rattle.writer.specs.Writing.{Written}
-use Rattle.writer.specs.declared.Wrote.{Wrote}
+use Rattle.writer.specs.Writing.{Wrote, Written}
 use Rattle.checker.specs.Check.{check_of}
-use Rattle.checker.specs.declared.Checked.{Checked}
+use Rattle.checker.specs.Check.{Checked}
 use Rattle.state.specs.States.{State}
 use Rattle.starter.specs.Start.{started, start_of}
 use Rattle.step.specs.Run.{outcome, ended, run_of}
 use Rattle.step.specs.declared.Outcome.{Outcome}
 use Rattle.machine.specs.Answers.{read_answer, write_answer, check_answer}
-use Rattle.machine.specs.Results.{returned_of, span_of}
+use Rattle.std.specs.Prelude.{Result, Ok, Err}
+use Rattle.machine.specs.Results.{returned_of, text_number, span_of}
 use Rattle.machine.specs.Face.{Said, said, tells, tells5, tells6, saying, saying5, saying6, leaving, bytes_told, returned_answer, text_answer, dm_read, dm_write, dm_check, dm_start, dm_run, dm_returned, dm_text}
 use Rattle.machine.specs.declared.Values.{Values}
 use Rattle.machine.specs.declared.Span.{Span}
-use Rattle.machine.specs.declared.Span.TheVariants as span
+use Rattle.machine.specs.declared.TextRefusal.{TextRefusal}
 
 -- ---- the test of `answer`'s length
 
@@ -124,7 +124,7 @@ module _ (S : Storage) (word : ℕ) (l : List ℕ) where
   text-short h = too_short l _ _ h
 
   pub text-told :
-      8 ≤ length l → (r : Span) → r ≡ span_of S word → (n : ℕ) (l' : List ℕ) → said n l' ≡ text_answer r l → said n l' ≡ dm_text S word l
+      8 ≤ length l → (r : Result Span TextRefusal) → r ≡ span_of S word → (n : ℕ) (l' : List ℕ) → said n l' ≡ text_answer r l → said n l' ≡ dm_text S word l
   unfolding dm_text
   text-told h r e n l' g = long l _ _ h _ (g ∙ rw e)
 
@@ -162,11 +162,11 @@ module _ (o : Outcome) (l : List ℕ) where
 
 -- ---- a string's place, told
 
-module _ (l l' : List ℕ) (number : ℕ) (o : Outcome) (r : Span) where
+module _ (l l' : List ℕ) (number : ℕ) (o : Outcome) (r : Result Span TextRefusal) where
   pub span-told :
-      (start n : ℕ) → r ≡ span.At start n → o ≡ outcome 0 0 0 0 → said number l' ≡ saying6 o start n l → said number l' ≡ text_answer r l
-  span-told start n e f h = rw e (rw f at h)
+      (s : Span) → r ≡ Ok s → o ≡ outcome 0 0 0 0 → said number l' ≡ saying6 o s.start s.count l → said number l' ≡ text_answer r l
+  span-told s e f h = rw e (rw f at h)
 
   pub refusal-told :
-      (k : ℕ) → r ≡ span.Refused k → o ≡ outcome k 0 0 0 → said number l' ≡ saying6 o 0 0 l → said number l' ≡ text_answer r l
+      (k : TextRefusal) → r ≡ Err k → o ≡ outcome (text_number k) 0 0 0 → said number l' ≡ saying6 o 0 0 l → said number l' ≡ text_answer r l
   refusal-told k e f h = rw e (rw f at h)

@@ -39,9 +39,12 @@ use Rattle.reach.proofs.Decoding.{decoded-within, class-within}
 use Rattle.step.specs.Run.{answer_of, standing_of}
 use Rattle.step.specs.declared.Outcome.{Outcome}
 use Rattle.step.proofs.Runs.{fit_steady}
-use Rattle.machine.specs.Results.{named, returned_of, is_string, span_of}
+use Rattle.std.specs.Prelude.{Result, Ok, Err}
+use Rattle.std.proofs.Common.{subst}
+use Rattle.machine.specs.Results.{named, returned_of, is_string, span, span_of}
 use Rattle.machine.specs.declared.Span.{Span}
-use Rattle.machine.specs.declared.Span.TheVariants.{At, Refused}
+use Rattle.machine.specs.declared.TextRefusal.{TextRefusal}
+use Rattle.machine.specs.declared.TextRefusal.TheVariants.{TooShort, NoImage, NoString}
 
 -- ---- constant i of an image of q prototypes is a string
 
@@ -122,11 +125,11 @@ module _ (S : Storage) (word : ℕ) where
   pub string_short : reads_back S ≡ true → is_string S word ≡ true → get_or S.words word 0 % 65536 ≤ 64
   string_short e s = (string_inside e s).1
 
-  abbrev Fine : Span → Type 0
-  Fine s = (from n : ℕ) → s ≡ At from n → from + n ≤ length S.texts
+  abbrev Fine : Result Span TextRefusal → Type 0
+  Fine r = (s : Span) → r ≡ Ok s → s.start + s.count ≤ length S.texts
 
-  refused : (k : ℕ) → Fine (Refused k)
-  refused k from n e = let z : ◌≡◌ {A = ℕ} 0 1 = cc in absurd (omega arith)
+  refused : (k : TextRefusal) → Fine (Err k)
+  refused k s e = cc
 
   pub span-inside : Fine (span_of S word)
   unfolding span_of
@@ -134,13 +137,12 @@ module _ (S : Storage) (word : ℕ) where
       cond_cases Fine (long_enough S) _ _
       (λ a. cond_cases Fine (reads_back S) _ _
       (λ b. cond_cases Fine (is_string S word) _ _
-      (λ c from n e. let h = (string_inside b c).0 in
-      let x : get_or S.words word 0 / 65536 ≡ from = cc in
-      let y : get_or S.words word 0 % 65536 ≡ n = cc in
-      omega arith)
-      (λ c. refused 20))
-      (λ b. refused 6))
-      (λ a. refused 5)
+      (λ c s e. let h = (string_inside b c).0 in
+      let x : span (get_or S.words word 0 / 65536) (get_or S.words word 0 % 65536) ≡ s = cc in
+      subst (λ (s : Span). s.start + s.count ≤ length S.texts) x h)
+      (λ c. refused NoString))
+      (λ b. refused NoImage))
+      (λ a. refused TooShort)
 
 -- ---- returned values
 

@@ -1,23 +1,21 @@
 -- Document 01's number, count and place for each case of an answer: "Outside runs the count is 0, and the place 0 unless a line or instruction is at fault."
 -- "(.. for reading, prototype 0 and the line)". Assumes nothing.
-use Rattle.image.specs.declared.Judged.{Judged}
-use Rattle.image.specs.declared.Judged.TheVariants as judged
-use Rattle.writer.specs.declared.Wrote.{Wrote}
-use Rattle.writer.specs.declared.Wrote.TheVariants as wrote
-use Rattle.checker.specs.declared.Checked.{Checked}
-use Rattle.checker.specs.declared.Checked.TheVariants as checked
+use Rattle.std.specs.Prelude.{Ok, Err}
+use Rattle.image.specs.Judge.{Judged, read_number}
+use Rattle.writer.specs.Writing.{Wrote, write_number}
+use Rattle.checker.specs.Check.{Checked}
 use Rattle.step.specs.Run.{outcome}
 use Rattle.step.specs.declared.Outcome.{Outcome}
 
 abbrev pub read_answer : Judged → Outcome
-read_answer (judged.Accepted n) = outcome 0 0 0 0
-read_answer (judged.Refused number line) = outcome number 0 0 line
+read_answer (Ok n) = outcome 0 0 0 0
+read_answer (Err refusal) = outcome (read_number refusal.error) 0 0 refusal.line
 
 abbrev pub write_answer : Wrote → Outcome
-write_answer (wrote.Bytes n) = outcome 0 0 0 0
-write_answer (wrote.Refused number) = outcome number 0 0 0
+write_answer (Ok n) = outcome 0 0 0 0
+write_answer (Err refusal) = outcome (write_number refusal) 0 0 0
 
 -- the checker's, and a start's
 abbrev pub check_answer : Checked → Outcome
-check_answer checked.Accepted = outcome 0 0 0 0
-check_answer (checked.Refused number q i) = outcome number 0 q i
+check_answer (Ok u) = outcome 0 0 0 0
+check_answer (Err refusal) = outcome refusal.number 0 refusal.prototype refusal.instruction

@@ -2,23 +2,21 @@
 -- The number, the count, the prototype and the instruction (or the line) go to answer[0] to answer[3], the operand that a Lua error names to answer[6], as 32
 -- bits each; all else in `answer` stays.
 -- An `answer` shorter than 8 is 5, of a run 60, and then nothing is touched.
-use Rattle.std.specs.Prelude.{List, ℕ, ◌%◌, ◌^◌, length, set, leb, cond}
+use Rattle.std.specs.Prelude.{List, ℕ, ◌%◌, ◌^◌, length, set, leb, cond, Result, Ok, Err}
 use Rattle.image.specs.Frames.{frames_of}
 use Rattle.storage.specs.Layout.{Storage}
 use Rattle.reader.specs.Reading.{read_of, left_of}
-use Rattle.writer.specs.Writing.{write_of, out_of}
-use Rattle.writer.specs.declared.Wrote.{Wrote}
-use Rattle.writer.specs.declared.Wrote.TheVariants as wrote
+use Rattle.writer.specs.Writing.{Wrote, write_of, out_of}
 use Rattle.checker.specs.Check.{check_of}
 use Rattle.state.specs.States.{State}
 use Rattle.starter.specs.Start.{start_of}
 use Rattle.step.specs.Run.{outcome, run_of}
 use Rattle.step.specs.declared.Outcome.{Outcome}
 use Rattle.machine.specs.Answers.{read_answer, write_answer, check_answer}
-use Rattle.machine.specs.Results.{returned_of, span_of}
+use Rattle.machine.specs.Results.{returned_of, text_number, span_of}
 use Rattle.machine.specs.declared.Values.{Values}
 use Rattle.machine.specs.declared.Span.{Span}
-use Rattle.machine.specs.declared.Span.TheVariants as span
+use Rattle.machine.specs.declared.TextRefusal.{TextRefusal}
 
 -- ---- the version: 10,000 times its first number, 100 times its second, and its third; this is 0.3.0, which the header has as DM_VERSION
 
@@ -76,8 +74,8 @@ dm_read image S l =
 -- ---- dm_write: answer[4] is how many bytes were written
 
 abbrev pub bytes_told : Wrote → ℕ
-bytes_told (wrote.Bytes n) = n
-bytes_told (wrote.Refused number) = 0
+bytes_told (Ok n) = n
+bytes_told (Err refusal) = 0
 
 unfoldable pub dm_write : Storage → List ℕ → List ℕ → Left (List ℕ)
 dm_write S out l =
@@ -113,9 +111,9 @@ dm_returned S s l = cond (leb answer_size (length l)) (returned_answer (returned
 
 -- ---- dm_text: answer[4] is where the string's bytes begin in `texts`, answer[5] how many they are
 
-abbrev pub text_answer : Span → List ℕ → Said
-text_answer (span.At start n) l = saying6 (outcome 0 0 0 0) start n l
-text_answer (span.Refused number) l = saying6 (outcome number 0 0 0) 0 0 l
+abbrev pub text_answer : Result Span TextRefusal → List ℕ → Said
+text_answer (Ok s) l = saying6 (outcome 0 0 0 0) s.start s.count l
+text_answer (Err e) l = saying6 (outcome (text_number e) 0 0 0) 0 0 l
 
 unfoldable pub dm_text : Storage → ℕ → List ℕ → Said
 dm_text S word l = cond (leb answer_size (length l)) (text_answer (span_of S word) l) (said 5 l)

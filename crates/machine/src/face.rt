@@ -6,9 +6,9 @@ ghost use Rattle.storage.specs.Layout.{storage_in, storage_old, storage_out};
 ghost use Rattle.state.specs.States.{state_in, state_seen, state_out};
 ghost use Rattle.machine.specs.Face.{said, saying, saying5, saying6, leaving, bytes_told, text_answer, version, dm_read, dm_write, dm_check, dm_start, dm_run, dm_returned, dm_text};
 
-use crate::Span;
+use crate::{Span, TextRefusal};
 use step::Outcome;
-use writer::Wrote;
+use writer::WriteRefusal;
 
 // How long `answer` has to be.
 pub const ANSWER: usize = 8;
@@ -84,12 +84,12 @@ pub fn dm_read(
     tell(answer, crate::read_answer(r))
 }
 
-fn bytes_of(r: Wrote) -> usize
+fn bytes_of(r: Result<usize, WriteRefusal>) -> usize
     ensures { result ≡ bytes_told r }
 {
     match r {
-        Wrote::Bytes(n) => n,
-        Wrote::Refused(_) => 0,
+        Ok(n) => n,
+        Err(_) => 0,
     }
 }
 
@@ -222,16 +222,12 @@ pub fn dm_returned(
     tell6(answer, o, r.first, r.count)
 }
 
-fn tell_span(answer: &mut [u32], r: Span) -> u32
+fn tell_span(answer: &mut [u32], r: Result<Span, TextRefusal>) -> u32
     ensures { said result answer.new ≡ text_answer r answer.old }
 {
     match r {
-        Span::At(start, n) => {
-            return tell6(answer, Outcome::new(0, 0, 0, 0), start, n);
-        }
-        Span::Refused(number) => {
-            return tell6(answer, Outcome::new(number, 0, 0, 0), 0, 0);
-        }
+        Ok(span) => tell6(answer, Outcome::new(0, 0, 0, 0), span.start, span.count),
+        Err(refusal) => tell6(answer, Outcome::new(refusal as u8, 0, 0, 0), 0, 0),
     }
 }
 

@@ -10,11 +10,10 @@ ghost use Rattle.state.specs.States.{state_seen};
 ghost use Rattle.machine.specs.Answers.{read_answer, write_answer, check_answer};
 ghost use Rattle.machine.specs.Results.{named, returned_of, is_string, span_of};
 
-use checker::{Checked, Class};
-use image::Judged;
+use checker::{Class, Refusal};
+use image::ReadRefusal;
 use step::Outcome;
-use storage::Validity;
-use writer::Wrote;
+use writer::WriteRefusal;
 
 // ---- an image: text to storage, storage to text, and whether the machine can carry it out
 
@@ -29,38 +28,38 @@ pub use vm::run;
 
 // ---- an answer's number, count and place
 
-pub fn read_answer(r: Judged) -> Outcome
+pub fn read_answer(r: Result<usize, ReadRefusal>) -> Outcome
     ensures { result ≡ read_answer r }
 {
     match r {
-        Judged::Accepted(_) => Outcome::new(0, 0, 0, 0),
-        Judged::Refused(number, line) => Outcome::new(number, 0, 0, line),
+        Ok(_) => Outcome::new(0, 0, 0, 0),
+        Err(refusal) => Outcome::new(refusal.error as u8, 0, 0, refusal.line),
     }
 }
 
-pub fn write_answer(r: Wrote) -> Outcome
+pub fn write_answer(r: Result<usize, WriteRefusal>) -> Outcome
     ensures { result ≡ write_answer r }
 {
     match r {
-        Wrote::Bytes(_) => Outcome::new(0, 0, 0, 0),
-        Wrote::Refused(number) => Outcome::new(number, 0, 0, 0),
+        Ok(_) => Outcome::new(0, 0, 0, 0),
+        Err(refusal) => Outcome::new(refusal as u8, 0, 0, 0),
     }
 }
 
 // The checker's, and a start's.
-pub fn check_answer(r: Checked) -> Outcome
+pub fn check_answer(r: Result<(), Refusal>) -> Outcome
     ensures { result ≡ check_answer r }
 {
     match r {
-        Checked::Accepted => Outcome::new(0, 0, 0, 0),
-        Checked::Refused(number, q, i) => Outcome::new(number, 0, q, i),
+        Ok(()) => Outcome::new(0, 0, 0, 0),
+        Err(refusal) => Outcome::new(refusal.number, 0, refusal.prototype, refusal.instruction),
     }
 }
 
 // ---- results
 
 // What a machine stands at, and of a finished one the first register that its Return names and how many values.
-#[derive(Clone, Copy)]
+#[derive(Clone, Copy, Debug, PartialEq, Eq)]
 pub struct Values {
     pub answer: Outcome,
     pub first: usize,
@@ -68,20 +67,21 @@ pub struct Values {
 }
 
 // What a Return names.
+#[tactic(auto, unfolding(crate::specs::Results::named))]
 fn named(o: Outcome, c: Class) -> Values
     ensures { result ≡ named o c }
 {
-    let Class::Returns(start, n) = c else {
-        return Values {
+    match c {
+        Class::Returns(first, count) => Values {
+            answer: o,
+            first,
+            count,
+        },
+        _ => Values {
             answer: o,
             first: 0,
             count: 0,
-        };
-    };
-    Values {
-        answer: o,
-        first: start,
-        count: n,
+        },
     }
 }
 
@@ -119,21 +119,33 @@ pub fn returned(
     named(o, checker::class_of(i))
 }
 
-// A string's place in the texts: where its bytes begin, and how many they are; or the refusal's number.
-#[derive(Clone, Copy)]
-pub enum Span {
-    At(usize, usize),
-    Refused(u8),
+// A string's place in the texts: where its bytes begin, and how many they are.
+#[derive(Clone, Copy, Debug, PartialEq, Eq)]
+pub struct Span {
+    pub start: usize,
+    pub count: usize,
+}
+
+// Why a string has no place, with the documents' numbers.
+#[derive(Clone, Copy, Debug, PartialEq, Eq)]
+pub enum TextRefusal {
+    // The lent slices are too short.
+    TooShort = 5,
+    // No image reads to the storage.
+    NoImage = 6,
+    // The word is no string's of this image.
+    NoString = 20,
 }
 
 fn is_string(table: &[u64], const_kinds: &[u8], word: usize) -> bool
     ensures { (c w x : List ℕ) → result ≡ is_string (storage table.now c const_kinds.now w x) word }
 {
     let n = storage::first_constant(table, storage::prototypes(table));
-    (word < n) & (slices::byte_at(const_kinds, 0, word) == 4)
+    (word < n) & (slices::get(const_kinds, 0, word) == 4)
 }
 
 // Where the bytes of a string are: `word` is the number of its constant in the whole image, as a register holds it.
+#[tactic(auto, unfolding(crate::specs::Results::span_of, storage::specs::Stored::valid_of))]
 pub fn text_span(
     table: &[u64],
     code: &[u64],
@@ -141,21 +153,21 @@ pub fn text_span(
     const_words: &[u64],
     texts: &[u8],
     word: u64,
-) -> Span
+) -> Result<Span, TextRefusal>
     ensures { result ≡ span_of (storage_in table code const_kinds const_words texts) word }
 {
     if !storage::is_long_enough(table, code, const_kinds, const_words, texts) {
-        return Span::Refused(5);
+        return Err(TextRefusal::TooShort);
     }
-    let v = storage::valid(table, code, const_kinds, const_words, texts);
-    match v {
-        Validity::Six => Span::Refused(6),
-        Validity::Bytes(_) => {
-            if !is_string(table, const_kinds, word as usize) {
-                return Span::Refused(20);
-            }
-            let w = slices::word_at(const_words, 0, word as usize);
-            Span::At((w / 65536) as usize, (w % 65536) as usize)
-        }
+    if storage::valid(table, code, const_kinds, const_words, texts).is_none() {
+        return Err(TextRefusal::NoImage);
     }
+    if !is_string(table, const_kinds, word as usize) {
+        return Err(TextRefusal::NoString);
+    }
+    let w = slices::get(const_words, 0, word as usize);
+    Ok(Span {
+        start: (w / 65536) as usize,
+        count: (w % 65536) as usize,
+    })
 }

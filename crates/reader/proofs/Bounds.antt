@@ -1,12 +1,11 @@
 -- The published sizes suffice for every accepted image: its bytes bound the instructions and the texts, its counts the constants and the table. Assumes nothing.
-use Rattle.std.proofs.Common.{◌≡◌, ℕ, ◌+◌, ◌*◌, ◌<◌, ◌≤◌, min, eqb, ltb, leb, List, [], ◌∷◌, length, refl, ap, subst, arith, length-append, ltb-true, leb-true}
+use Rattle.std.proofs.Common.{◌≡◌, ℕ, ◌+◌, ◌*◌, ◌<◌, ◌≤◌, min, eqb, ltb, leb, List, [], ◌∷◌, length, Ok, refl, ap, subst, arith, length-append, ltb-true, leb-true}
 use Rattle.image.specs.Frames.{F, opens, const, str, code, ends, bad, desc, shape, frames_of}
 use Rattle.image.specs.Judge.{frame_step, const_step, code_step, desc_step, start, judge_of}
 use Rattle.image.specs.Write.{written}
 use Rattle.image.specs.declared.Counts.{Counts}
 use Rattle.image.specs.declared.Step.{Step}
 use Rattle.image.specs.declared.Step.TheVariants.{On, Done, No}
-use Rattle.image.specs.declared.Judged.TheVariants.{Accepted}
 use Rattle.choices.proofs.Choices.{cond_cases}
 use Rattle.image.proofs.Sizes.{line_size, size-line}
 use Rattle.image.proofs.Trip.{round_trip}
@@ -54,12 +53,12 @@ all_light (f ∷ fs) =
 
 -- ---- by the counts
 
-abbrev Ok : Counts → Type 0
-Ok st = (st.protos ≤ 32) × (st.consts ≤ 256 * min 1 st.protos)
+abbrev Counted : Counts → Type 0
+Counted st = (st.protos ≤ 32) × (st.consts ≤ 256 * min 1 st.protos)
 
 -- what a frame adds is covered by what is counted
 record Covers (st t : Counts) (f : F) : Type 0 where
-  ok : Ok t
+  ok : Counted t
   kinds : length (kinds_of f) + st.consts + 256 * st.protos + 256 * min 1 t.protos ≤ t.consts + 256 * t.protos + 256 * min 1 st.protos
   entries : (c k : ℕ) → length (entry_of c k f) + 4 * st.protos ≤ 4 * t.protos
 
@@ -68,7 +67,7 @@ Cover st f (On t) = Covers st t f
 Cover st f Done = (length (kinds_of f) ≡ 0) × ((c k : ℕ) → length (entry_of c k f) ≡ 4)
 Cover st f (No k) = Unit {0}
 
-module _ (st : Counts) (o : Ok st) where
+module _ (st : Counts) (o : Counted st) where
   const-cover : (f : F) → length (kinds_of f) ≡ 1 → ((c k : ℕ) → length (entry_of c k f) ≡ 0) → Cover st f (const_step st)
   unfolding const_step
   const-cover f one none =
@@ -123,7 +122,7 @@ record Rest (st : Counts) (fs : List F) : Type 0 where
   kinds : length (kinds_all fs) + st.consts + 256 * st.protos ≤ 8192 + 256 * min 1 st.protos
   entries : (c k : ℕ) → length (entries_all c k fs) + 4 * st.protos ≤ 132
 
-rest_of : {st : Counts} {q : ℕ} {fs : List F} → Runs st q fs → Ok st → Rest st fs
+rest_of : {st : Counts} {q : ℕ} {fs : List F} → Runs st q fs → Counted st → Rest st fs
 unfolding kinds_all entries_all
 rest_of (last {st} {f = f} r e) o =
     let v = subst (λ (u : Step). Cover st f u) r (covers st o f) in
@@ -158,7 +157,7 @@ words-kinds (f ∷ fs) top =
 
 -- ---- the published sizes
 
-pub sizes_suffice : (s : List ℕ) (q : ℕ) → judge_of s ≡ Accepted q → Suffice q (frames_of s)
+pub sizes_suffice : (s : List ℕ) (q : ℕ) → judge_of s ≡ Ok q → Suffice q (frames_of s)
 sizes_suffice s q e =
     let fs = frames_of s in
     let a = accepted_short s q e in

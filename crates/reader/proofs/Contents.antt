@@ -1,11 +1,11 @@
 -- What reading leaves: the answer by the tests that led to it, the image's contents in the slices, and that the image then reads to the storage in the sense that
 -- writer, checker and start test. Assumes nothing.
-use Rattle.std.proofs.Common.{◌≡◌, ℕ, ◌≤◌, true, false, List, ◌++◌, length, take, drop, sym, refl, ap, ◌∙◌, zero-add, arith, length-append, length-drop, leb-true}
+use Rattle.std.proofs.Common.{◌≡◌, ℕ, ◌≤◌, true, false, List, ◌++◌, Ok, Err, IsErrAnd, length, take, drop, sym, refl, ap, ◌∙◌, zero-add, arith, length-append, length-drop, leb-true}
 use lib.Seq.{sets, sets-eq, take-append_seam}
 use Rattle.image.specs.Frames.{frames_of}
-use Rattle.image.specs.Judge.{start, judge_of}
-use Rattle.image.specs.declared.Judged.{Judged}
-use Rattle.image.specs.declared.Judged.TheVariants.{Accepted, Refused}
+use Rattle.image.specs.Judge.{Judged, refused, start, judge_of}
+use Rattle.image.specs.declared.ReadRefusal.{ReadRefusal}
+use Rattle.image.specs.declared.ReadError.TheVariants.{ShortStorage}
 use Rattle.storage.specs.Layout.{Storage, storage, contents_of, laid, long_enough, table_size, code_size, constant_size, text_size, described}
 use Rattle.storage.specs.Stored.{ReadsTo}
 use Rattle.storage.proofs.Runs.{Runs, accepted_runs}
@@ -19,13 +19,16 @@ use Rattle.reader.proofs.Described.{puts-described, described-front, described-t
 -- ---- the answer
 
 module _ (image : List ℕ) (S : Storage) where
-  pub too_short : long_enough S ≡ false → Read image (Refused 5 0) S S
+  pub too_short : long_enough S ≡ false → Read image (refused ShortStorage 0) S S
   unfolding read_of left_of
   too_short e = record { answer = rw e; left = refl }
 
-  pub refused : (k n : ℕ) → long_enough S ≡ true → judge_of image ≡ Refused k n → Read image (Refused k n) S S
+  -- x hands on the judge's refusal
+  pub refused_read : (x : Judged) (r : ReadRefusal) → IsErrAnd x (λ (y : ReadRefusal). y ≡ r) → long_enough S ≡ true → judge_of image ≡ Err r
+      → Read image x S S
   unfolding read_of left_of
-  refused k n e j = record { answer = rw (e, j); left = refl }
+  refused_read (Ok n) r h e j = absurd h
+  refused_read (Err y) r h e j = record { answer = rw (e, j, h); left = refl }
 
 -- ---- the contents
 
@@ -48,12 +51,12 @@ long-slices t c k w x e =
 sets-laid : (xs l : List ℕ) → length xs ≤ length l → sets l 0 xs ≡ laid xs l
 sets-laid xs l h = sets-eq xs l 0 (omega arith) ∙ ap (λ (n : ℕ). xs ++ drop n l) (zero-add (length xs))
 
-runs : (image : List ℕ) (n : ℕ) → judge_of image ≡ Accepted n → Runs start n (frames_of image)
+runs : (image : List ℕ) (n : ℕ) → judge_of image ≡ Ok n → Runs start n (frames_of image)
 runs image n j = accepted_runs (frames_of image) start 0 n (accepted_short image n j).1
 
-module _ (image : List ℕ) (n : ℕ) (t c k w x : List ℕ) (e : long_enough (storage t c k w x) ≡ true) (j : judge_of image ≡ Accepted n) where
+module _ (image : List ℕ) (n : ℕ) (t c k w x : List ℕ) (e : long_enough (storage t c k w x) ≡ true) (j : judge_of image ≡ Ok n) where
   pub accepted : (t' c' k' w' x' : List ℕ) → Filled n (frames_of image) t t' c c' k k' w w' x x'
-      → Read image (Accepted n) (storage t c k w x) (storage t' c' k' w' x')
+      → Read image (Ok n) (storage t c k w x) (storage t' c' k' w' x')
   unfolding read_of left_of
   accepted t' c' k' w' x' f =
       let X = contents_of n (frames_of image) in
@@ -71,7 +74,7 @@ module _ (image : List ℕ) (n : ℕ) (t c k w x : List ℕ) (e : long_enough (s
             );
       }
 
--- ---- after Accepted the image reads to the storage
+-- ---- after Ok the image reads to the storage
 
 front : (xs l : List ℕ) → take (length xs) (laid xs l) ≡ xs
 front xs l = take-append_seam xs (drop (length xs) l)
@@ -79,13 +82,13 @@ front xs l = take-append_seam xs (drop (length xs) l)
 laid-length : (xs l : List ℕ) → length l ≤ length (laid xs l)
 laid-length xs l = omega (arith, length-append xs (drop (length xs) l), length-drop (length xs) l)
 
-judged : (image : List ℕ) (n : ℕ) (S : Storage) → Accepted n ≡ read_of image S → (long_enough S ≡ true) × (judge_of image ≡ Accepted n)
+judged : (image : List ℕ) (n : ℕ) (S : Storage) → Ok n ≡ read_of image S → (long_enough S ≡ true) × (judge_of image ≡ Ok n)
 unfolding read_of
 judged image n S =
-    cond_cases (λ (j : Judged). Accepted n ≡ j → (long_enough S ≡ true) × (judge_of image ≡ Accepted n)) (long_enough S) _ _ (λ h e. (h, sym e))
+    cond_cases (λ (j : Judged). Ok n ≡ j → (long_enough S ≡ true) × (judge_of image ≡ Ok n)) (long_enough S) _ _ (λ h e. (h, sym e))
     (λ h e. let z : ◌≡◌ {A = ℕ} 0 1 = cc in absurd (omega arith))
 
-pub reads-to : (image : List ℕ) (n : ℕ) (S S' : Storage) → Read image (Accepted n) S S' → ReadsTo image S'
+pub reads-to : (image : List ℕ) (n : ℕ) (S S' : Storage) → Read image (Ok n) S S' → ReadsTo image S'
 unfolding left_of
 reads-to image n S S' r =
     let fs = frames_of image in

@@ -1,18 +1,19 @@
 -- Laws of judging: what is left, judged from where the code stands, is the whole judged. Assumes nothing.
-use Rattle.std.proofs.Common.{◌≡◌, ℕ, ◌+◌, ◌<◌, ◌≤◌, List, ◌∷◌, length, drop, refl, ◌∙◌, arith, le-ltb, lt-ltb}
+use Rattle.std.proofs.Common.{◌≡◌, ℕ, ◌+◌, ◌<◌, ◌≤◌, List, ◌∷◌, length, drop, Ok, refl, ◌∙◌, arith, le-ltb, lt-ltb}
 use Rattle.image.specs.Lines.{line_len}
 use Rattle.image.specs.Frames.{F, frames_of}
-use Rattle.image.specs.Judge.{frame_step, start, at_end, judge_after, judge_frames, judge_of}
+use Rattle.image.specs.Judge.{refused, frame_step, start, at_end, judge_after, judge_frames, judge_of}
 use Rattle.image.specs.declared.Counts.{Counts}
 use Rattle.image.specs.declared.Step.{Step}
 use Rattle.image.specs.declared.Step.TheVariants.{On, Done, No}
-use Rattle.image.specs.declared.Judged.TheVariants.{Accepted, Refused}
+use Rattle.image.specs.declared.ReadError.{ReadError}
+use Rattle.image.specs.declared.ReadError.TheVariants.{PastLimit, WrongEnd}
 use Rattle.reader.specs.declared.line.Next.{Next}
 use Rattle.reader.specs.Steps.{Advance}
 use Rattle.choices.proofs.Choices.{by_order}
 use Rattle.reader.proofs.LineLaws.{frames_cut, frames_uncut, frames_none}
 
-pub judge-long : (l : List ℕ) → 65536 < length l → judge_of l ≡ Refused 3 0
+pub judge-long : (l : List ℕ) → 65536 < length l → judge_of l ≡ refused PastLimit 0
 unfolding judge_of
 judge-long l h = simp (lt-ltb _ _ h)
 
@@ -33,16 +34,16 @@ some-frame l at h =
     (λ k. (_, (_, frames_uncut l at k h)))
     (λ k. (_, (_, frames_cut l at (at + line_len (drop at l)) refl k)))
 
-end-all : (p n : ℕ) (l : List ℕ) (at : ℕ) → at ≡ length l → at_end p n (frames_of (drop at l)) ≡ Accepted p
+end-all : (p n : ℕ) (l : List ℕ) (at : ℕ) → at ≡ length l → at_end p n (frames_of (drop at l)) ≡ Ok p
 unfolding at_end
 end-all p n l at h = rw (frames_none l at (omega arith))
 
-end_more : (p n : ℕ) (l : List ℕ) (at : ℕ) → at < length l → at_end p n (frames_of (drop at l)) ≡ Refused 4 n
+end_more : (p n : ℕ) (l : List ℕ) (at : ℕ) → at < length l → at_end p n (frames_of (drop at l)) ≡ refused WrongEnd n
 unfolding at_end
 end_more p n l at h = let s = some-frame l at h in rw s.1.1
 
 module _ (l : List ℕ) (at n : ℕ) (st : Counts) (g : Going l at n st) where
-  pub going_end : length l ≤ at → judge_of l ≡ Refused 4 n
+  pub going_end : length l ≤ at → judge_of l ≡ refused WrongEnd n
   unfolding judge_frames
   going_end h = g.rest ∙ rw (frames_none l at h)
 
@@ -57,16 +58,16 @@ module _ (l : List ℕ) (at n : ℕ) (st : Counts) (g : Going l at n st) where
     unfolding judge_after
     going_on t e = record { within = a.within; few = omega (arith, a.more, g.few); rest = turn (On t) e }
 
-    pub going_all : frame_step st r.frame ≡ Done → r.next ≡ length l → judge_of l ≡ Accepted st.protos
+    pub going_all : frame_step st r.frame ≡ Done → r.next ≡ length l → judge_of l ≡ Ok st.protos
     unfolding judge_after
     going_all e h = turn Done e ∙ end-all _ _ l r.next h
 
-    pub going_more : frame_step st r.frame ≡ Done → (r.next ≡ length l → ⊥) → judge_of l ≡ Refused 4 (n + 1)
+    pub going_more : frame_step st r.frame ≡ Done → (r.next ≡ length l → ⊥) → judge_of l ≡ refused WrongEnd (n + 1)
     unfolding judge_after
     going_more e h =
         let k : r.next < length l = omega (arith, a.within) in
         turn Done e ∙ end_more _ _ l r.next k
 
-    pub going_no : (k : ℕ) → frame_step st r.frame ≡ No k → judge_of l ≡ Refused k n
+    pub going_no : (k : ReadError) → frame_step st r.frame ≡ No k → judge_of l ≡ refused k n
     unfolding judge_after
     going_no k e = turn (No k) e

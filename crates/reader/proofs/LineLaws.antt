@@ -2,6 +2,7 @@
 use Rattle.std.proofs.Common.{◌≡◌, ℕ, zero, suc, ◌+◌, ◌-◌, ◌<◌, ◌≤◌, cond, eqb, List, [], ◌∷◌, length, get_or, take, drop, arith, length-drop, drop_of_length-le, drop-cons, drop-drop, le-ltb, lt-ltb, eq-eqb, ne_eqb}
 use lib.Seq.{drop-length}
 use Rattle.image.specs.Lines.{ended, unended, onto, lines, line_len}
+use Rattle.image.specs.declared.ReadError.TheVariants.{BrokenLine}
 use Rattle.image.specs.Frames.{bad, frame_of, line_frame, frames_of, first_frame}
 use Rattle.choices.proofs.Choices.{by_bool}
 
@@ -70,7 +71,7 @@ first-cut l at e h k =
     rw n (simp (lt-ltb _ _ m))
 
 pub frames_uncut : (l : List ℕ) (at : ℕ) → length l ≤ at + line_len (drop at l) → at < length l
-    → frames_of (drop at l) ≡ bad 1 ∷ frames_of (drop (length l) l)
+    → frames_of (drop at l) ≡ bad BrokenLine ∷ frames_of (drop (length l) l)
 unfolding frames_of line_frame lines
 frames_uncut l at h k =
     let m : length (drop at l) ≤ line_len (drop at l) = rw length-drop (omega arith) in
@@ -78,7 +79,7 @@ frames_uncut l at h k =
     rw (lines_uncut (drop at l) m n, drop-length l)
 
 pub first_uncut : (l : List ℕ) (at : ℕ) → length l ≤ at + line_len (drop at l) → at < length l
-    → first_frame (drop at l) ≡ bad 1
+    → first_frame (drop at l) ≡ bad BrokenLine
 unfolding first_frame
 first_uncut l at h k =
     let m : length (drop at l) ≤ line_len (drop at l) = rw length-drop (omega arith) in

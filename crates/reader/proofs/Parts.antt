@@ -1,6 +1,7 @@
 -- The loop over frames, one slice at a time: what is left to store, stored on what is there, is the whole stored on the start. Assumes nothing.
 use Rattle.std.proofs.Common.{◌≡◌, ℕ, suc, ◌+◌, ◌-◌, ◌/◌, ◌≤◌, List, [], ◌∷◌, ◌++◌, length, set, sym, refl, ap, ◌∙◌, add-zero, arith, length-append, length-set}
 use lib.Seq.{sets, set_comm, length-sets}
+use Rattle.image.specs.declared.ReadError.{ReadError}
 use Rattle.image.specs.Frames.{F, opens, const, str, code, ends, bad, desc}
 use Rattle.storage.specs.declared.Tops.{Tops}
 use Rattle.storage.specs.Fields.{descriptors_place}
@@ -175,7 +176,7 @@ module _ (all : List F) (l₀ c₀ k₀ w₀ x₀ : List ℕ) where
         }
 
     -- a refused line at the end adds nothing
-    pub left-bad : (m : ℕ) → Left t (bad m ∷ []) l c k w x → Left t [] l c k w x
+    pub left-bad : (m : ReadError) → Left t (bad m ∷ []) l c k w x → Left t [] l c k w x
     unfolding entries_all codes_all kinds_all words_all texts_all entry_of codes_of kinds_of words_of texts_of desc_put desc_top desc_puts
     left-bad m left =
         record {

@@ -5,6 +5,7 @@ use lib.Seq.{sets}
 use Rattle.image.specs.Hex.{paired, bytes_of}
 use Rattle.image.specs.Frames.{F, opens, const, str, code, ends, bad, desc, shape, frame_of, kind_bytes, open_bytes, word_bytes_of, const_bytes, code_bytes, end_bytes, desc_bytes, payload, most_of}
 use Rattle.image.specs.declared.Frame.{Frame}
+use Rattle.image.specs.declared.ReadError.{ReadError}
 use Rattle.image.specs.declared.Frame.TheVariants.{Open, Const, Str, Code, End, Bad, Desc}
 use Rattle.storage.specs.declared.Tops.{Tops}
 use Rattle.storage.specs.Fields.{descriptors_place}
@@ -205,7 +206,7 @@ module _ (t : Tops) (l c k w x : List ℕ) where
       rw (add-zero t.codes)
       (record { top_entries = omega arith; top_codes = refl; top_consts = omega arith; top_texts = omega arith; top_descs = refl; table = refl; code = refl; kinds = refl; words = refl; texts = refl })
 
-  pub put-bad : (n : ℕ) → FramePut t t (bad n) l l c c k k w w x x
+  pub put-bad : (n : ReadError) → FramePut t t (bad n) l l c c k k w w x x
   unfolding entry_of codes_of kinds_of words_of texts_of desc_put desc_top
   put-bad n =
       record { top_entries = omega arith; top_codes = omega arith; top_consts = omega arith; top_texts = omega arith; top_descs = refl; table = refl; code = refl; kinds = refl; words = refl; texts = refl }

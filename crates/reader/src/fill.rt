@@ -19,7 +19,7 @@ fn put_text(line: &[u8], n: usize, texts: &mut [u8], top: usize)
     let mut i = 0;
     while i < n {
         let b = hex::byte_at(line, 2 + i);
-        slices::put_byte(texts, top, i, b);
+        slices::put(texts, top, i, b);
         i = i + 1;
     }
 }
@@ -28,10 +28,10 @@ fn put_text(line: &[u8], n: usize, texts: &mut [u8], top: usize)
 fn put_entry(table: &mut [u64], at: usize, r: u64, p: u64, c: u64, k: u64)
     ensures { table.new ≡ sets table.old at (r ∷ p ∷ c ∷ k ∷ []) }
 {
-    slices::put_word(table, at, 0, r);
-    slices::put_word(table, at, 1, p);
-    slices::put_word(table, at, 2, c);
-    slices::put_word(table, at, 3, k);
+    slices::put(table, at, 0, r);
+    slices::put(table, at, 1, p);
+    slices::put(table, at, 2, c);
+    slices::put(table, at, 3, k);
 }
 
 // The prototype that was opened last, where the next entry goes to `at`; 0 where none was.
@@ -49,7 +49,7 @@ fn put_none(table: &mut [u64], q: usize)
     requires { q ≤ 1048576 }
     ensures { table.new ≡ slice_set table.old (descriptors_place q) 0 }
 {
-    slices::put_word(table, storage::DESCRIPTORS_AT, storage::DESCRIPTORS * q, 0);
+    slices::put(table, storage::DESCRIPTORS_AT, storage::DESCRIPTORS * q, 0);
 }
 
 // Prototype q's descriptor d, its last one so far: kind and number.
@@ -59,8 +59,8 @@ fn put_descriptor(table: &mut [u64], q: usize, d: usize, kind: u8, n: u8)
 {
     let place = storage::DESCRIPTORS_AT + storage::DESCRIPTORS * q;
     let w = (kind as u64) * 256 + (n as u64);
-    slices::put_word(table, place, 1 + d, w);
-    slices::put_word(table, place, 0, (d + 1) as u64);
+    slices::put(table, place, 1 + d, w);
+    slices::put(table, place, 0, (d + 1) as u64);
 }
 
 // One frame; what is handed back is how far each slice is filled now.
@@ -91,19 +91,19 @@ fn put_frame(
             t.descs = 0;
         }
         Frame::Const(tag, w) => {
-            slices::put_byte(const_kinds, c, 0, tag);
-            slices::put_word(const_words, c, 0, w);
+            slices::put(const_kinds, c, 0, tag);
+            slices::put(const_words, c, 0, w);
             t.consts = c + 1;
         }
         Frame::Str(n) => {
-            slices::put_byte(const_kinds, c, 0, 4);
-            slices::put_word(const_words, c, 0, (top * 65536 + n) as u64);
+            slices::put(const_kinds, c, 0, 4);
+            slices::put(const_words, c, 0, (top * 65536 + n) as u64);
             put_text(line, n, texts, top);
             t.consts = c + 1;
             t.texts = top + n;
         }
         Frame::Code(w) => {
-            slices::put_word(code, k, 0, w);
+            slices::put(code, k, 0, w);
             t.codes = k + 1;
         }
         Frame::End(_) => {
@@ -132,7 +132,7 @@ pub(crate) fn fill_all(
     requires { Suffice n (frames_of s.now) }
     ensures { Filled n (frames_of s.now) table.old table.new code.old code.new const_kinds.old const_kinds.new const_words.old const_words.new texts.old texts.new }
 {
-    slices::put_word(table, 0, 0, n as u64);
+    slices::put(table, 0, 0, n as u64);
     let mut at = 0;
     let mut t = Tops {
         entries: 1,

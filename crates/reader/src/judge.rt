@@ -3,14 +3,17 @@ ghost use Rattle.std.specs.Prelude.{◌≡◌};
 ghost use Rattle.image.specs.Judge.{judge_of};
 
 use crate::view;
-use image::{Counts, Judged, Step};
+use image::{Counts, ReadError, ReadRefusal, Step};
 
-// Accepted with its number of prototypes; or refused, with the number and the line.
-pub(crate) fn judge(s: &[u8]) -> Judged
+// Its number of prototypes where it is.
+pub(crate) fn judge(s: &[u8]) -> Result<usize, ReadRefusal>
     ensures { result ≡ judge_of s.now }
 {
     if 65536 < s.len() {
-        return Judged::Refused(3, 0);
+        return Err(ReadRefusal {
+            error: ReadError::PastLimit,
+            line: 0,
+        });
     }
     let mut at = 0;
     let mut line = 0;
@@ -31,16 +34,22 @@ pub(crate) fn judge(s: &[u8]) -> Judged
             }
             Step::Done => {
                 if next == s.len() {
-                    return Judged::Accepted(st.protos);
+                    return Ok(st.protos);
                 }
-                return Judged::Refused(4, line + 1);
+                return Err(ReadRefusal {
+                    error: ReadError::WrongEnd,
+                    line: line + 1,
+                });
             }
-            Step::No(k) => {
-                return Judged::Refused(k, line);
+            Step::No(error) => {
+                return Err(ReadRefusal { error, line });
             }
         }
         at = next;
         line = line + 1;
     }
-    Judged::Refused(4, line)
+    Err(ReadRefusal {
+        error: ReadError::WrongEnd,
+        line,
+    })
 }

@@ -10,7 +10,7 @@ mod view;
 ghost use Rattle.storage.specs.Layout.{storage_old, storage_out};
 ghost use Rattle.reader.specs.Reading.{Read};
 
-use image::Judged;
+use image::{ReadError, ReadRefusal};
 
 pub fn read(
     image: &[u8],
@@ -19,16 +19,16 @@ pub fn read(
     const_kinds: &mut [u8],
     const_words: &mut [u64],
     texts: &mut [u8],
-) -> Judged
+) -> Result<usize, ReadRefusal>
     ensures { Read image.now result (storage_old table code const_kinds const_words texts) (storage_out table code const_kinds const_words texts) }
 {
-    let enough = storage::is_long_enough(table, code, const_kinds, const_words, texts);
-    if !enough {
-        return Judged::Refused(5, 0);
+    if !storage::is_long_enough(table, code, const_kinds, const_words, texts) {
+        return Err(ReadRefusal {
+            error: ReadError::ShortStorage,
+            line: 0,
+        });
     }
-    let j = judge::judge(image);
-    if let Judged::Accepted(n) = j {
-        fill::fill_all(image, n, table, code, const_kinds, const_words, texts);
-    }
-    j
+    let n = judge::judge(image)?;
+    fill::fill_all(image, n, table, code, const_kinds, const_words, texts);
+    Ok(n)
 }

@@ -6,7 +6,7 @@ ghost use Rattle.image.specs.Frames.{shape, open_bytes, word_bytes_of, const_byt
 ghost use Rattle.reader.specs.Steps.{Advance};
 
 use crate::hex;
-use image::Frame;
+use image::{Frame, ReadError};
 
 // Where the first LF at or after `at` stands; the length where there is none.
 fn find_lf(s: &[u8], at: usize) -> usize
@@ -36,9 +36,9 @@ fn open_frame(s: &[u8]) -> Frame
                 return Frame::Open(r, p);
             }
         }
-        return Frame::Bad(2);
+        return Frame::Bad(ReadError::BadFrame);
     }
-    Frame::Bad(2)
+    Frame::Bad(ReadError::BadFrame)
 }
 
 // b0, a tag below 4, its word.
@@ -52,9 +52,9 @@ fn word_frame(s: &[u8], tag: u8) -> Frame
         if w <= image::most_of(tag) {
             return Frame::Const(tag, w);
         }
-        return Frame::Bad(2);
+        return Frame::Bad(ReadError::BadFrame);
     }
-    Frame::Bad(2)
+    Frame::Bad(ReadError::BadFrame)
 }
 
 // b0, tag, payload.
@@ -63,7 +63,7 @@ fn const_frame(s: &[u8]) -> Frame
     ensures { result ≡ shape (const_bytes (bytes_of s.now)) }
 {
     if s.len() < 4 {
-        return Frame::Bad(2);
+        return Frame::Bad(ReadError::BadFrame);
     }
     let tag = hex::byte_at(s, 1);
     if tag < 4 {
@@ -73,9 +73,9 @@ fn const_frame(s: &[u8]) -> Frame
         if s.len() <= 132 {
             return Frame::Str(s.len() / 2 - 2);
         }
-        return Frame::Bad(2);
+        return Frame::Bad(ReadError::BadFrame);
     }
-    Frame::Bad(2)
+    Frame::Bad(ReadError::BadFrame)
 }
 
 // c0, operation, flags, a, b, c.
@@ -91,7 +91,7 @@ fn code_frame(s: &[u8]) -> Frame
         let c = hex::byte_at(s, 5);
         return Frame::Code(image::pack(operation, flags, a, b, c));
     }
-    Frame::Bad(2)
+    Frame::Bad(ReadError::BadFrame)
 }
 
 // e0, number of prototypes.
@@ -102,7 +102,7 @@ fn end_frame(s: &[u8]) -> Frame
     if s.len() == 4 {
         return Frame::End(hex::byte_at(s, 1));
     }
-    Frame::Bad(2)
+    Frame::Bad(ReadError::BadFrame)
 }
 
 // d1, kind (0 or 1), number.
@@ -116,9 +116,9 @@ fn desc_frame(s: &[u8]) -> Frame
         if k <= 1 {
             return Frame::Desc(k, n);
         }
-        return Frame::Bad(2);
+        return Frame::Bad(ReadError::BadFrame);
     }
-    Frame::Bad(2)
+    Frame::Bad(ReadError::BadFrame)
 }
 
 // "The first byte is the kind."
@@ -142,7 +142,7 @@ fn kind_frame(s: &[u8]) -> Frame
     if k == 0xd1 {
         return desc_frame(s);
     }
-    Frame::Bad(2)
+    Frame::Bad(ReadError::BadFrame)
 }
 
 // A line's text: by 1, then by 2.
@@ -150,11 +150,11 @@ fn frame_of(s: &[u8]) -> Frame
     ensures { result ≡ shape (frame_of s.now) }
 {
     if s.len() < 1 {
-        return Frame::Bad(1);
+        return Frame::Bad(ReadError::BrokenLine);
     }
     let ok = hex::is_paired(s);
     if !ok {
-        return Frame::Bad(1);
+        return Frame::Bad(ReadError::BrokenLine);
     }
     kind_frame(s)
 }
@@ -167,7 +167,7 @@ pub(crate) struct Next {
     pub(crate) next: usize,
 }
 
-// The line that starts at `at`; one that lacks its LF is Bad(1).
+// The line that starts at `at`; one that lacks its LF is Bad.
 pub(crate) fn next_frame(s: &[u8], at: usize) -> Next
     requires { at < length s.now }
     ensures { Advance s.now at result }
@@ -175,7 +175,7 @@ pub(crate) fn next_frame(s: &[u8], at: usize) -> Next
     let e = find_lf(s, at);
     if s.len() <= e {
         return Next {
-            frame: Frame::Bad(1),
+            frame: Frame::Bad(ReadError::BrokenLine),
             end: e,
             next: s.len(),
         };

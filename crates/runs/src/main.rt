@@ -11,10 +11,7 @@
 
 ghost use Rattle.std.specs.Prelude.{◌+◌, ◌≤◌, length, IfOk};
 
-use checker::Checked;
-use image::Judged;
 use std::io;
-use std::io::Read;
 use step::Outcome;
 
 const BUDGET: u32 = 1000000;
@@ -37,8 +34,8 @@ fn put_hex(out: &mut [u8], i: usize, b: u8)
 {
     let high = digit(b / 16);
     let low = digit(b % 16);
-    slices::put_byte(out, 1, 2 * i, high);
-    slices::put_byte(out, 1, 2 * i + 1, low);
+    slices::put(out, 1, 2 * i, high);
+    slices::put(out, 1, 2 * i + 1, low);
 }
 
 // A word, its high byte first.
@@ -155,8 +152,8 @@ fn print_returned(
     let n = image::b_of(w) as usize;
     let mut i: usize = 0;
     while i < n {
-        let kind = slices::byte_at(kinds, start, i);
-        let word = slices::word_at(words, start, i);
+        let kind = slices::get(kinds, start, i);
+        let word = slices::get(words, start, i);
         print_value(rt, kind, word, const_words, texts, frames)?;
         i += 1;
     }
@@ -238,9 +235,9 @@ fn run(rt: &impl Print, s: &[u8]) -> io::Result<u8> {
         &mut const_words,
         &mut texts,
     );
-    if let Judged::Refused(n, _) = r {
+    if let Err(refusal) = r {
         rt.println("not read")?;
-        return Ok(n);
+        return Ok(refusal.error as u8);
     }
     let mut frames = [0u64; state::FRAMES];
     let mut kinds = [0u8; state::REGISTERS];
@@ -259,9 +256,9 @@ fn run(rt: &impl Print, s: &[u8]) -> io::Result<u8> {
         &no_kinds,
         &no_words,
     );
-    if let Checked::Refused(n, _, _) = c {
+    if let Err(refusal) = c {
         rt.println("not started")?;
-        return Ok(n);
+        return Ok(refusal.number);
     }
     answer(
         rt,
@@ -306,7 +303,7 @@ fn play_line(rt: &impl Print, s: &[u8], p: Played, at: usize, e: usize) -> io::R
     requires { (p.start ≤ at) × (at ≤ e) × (e ≤ length s.now) }
     ensures { IfOk result (λ next. next.start ≤ e + 1) }
 {
-    let kind = slices::byte_at(s, at, 0);
+    let kind = slices::get(s, at, 0);
     let start = p.start;
     let tally = p.tally;
     if kind == b'#' {
@@ -352,19 +349,8 @@ fn play(rt: &impl Print, s: &[u8]) -> io::Result<()> {
     print_totals(rt, p.tally)
 }
 
-// Fills a buffer from the input, or as much of it as the input has. Answers how many bytes that is.
-fn read_full(rt: &impl Input, buffer: &mut [u8]) -> io::Result<usize>
-    ensures { IfOk result (λ n. n ≤ length buffer.new) }
-{
-    let room = buffer.len();
-    let mut rest = &mut buffer[..];
-    io::copy(&mut rt.reader().take(room as u64), &mut rest)?;
-    let left = rest.len();
-    Ok(room.saturating_sub(left))
-}
-
 fn main(rt: HostRuntime) -> io::Result<()> {
     let mut list = [0u8; 1048576];
-    let n = read_full(&rt, &mut list)?;
+    let n = lists::read_full(&rt, &mut list)?;
     play(&rt, &list[..n])
 }

@@ -2,8 +2,7 @@
 // number, its count and its place.
 #![tactic(auto)]
 
-use constant::{Answer, Value};
-use number::Whole;
+use constant::{OperatorError, Value};
 use std::io;
 use step::Outcome;
 use worked::Told;
@@ -12,17 +11,17 @@ fn write_value(rt: &impl Print, v: Value) -> io::Result<()> {
     print!(rt; "{} {:016x}", constant::kind_of(v), constant::word_of(v))
 }
 
-fn write_answer(rt: &impl Print, a: Answer) -> io::Result<()> {
-    match a {
-        Answer::Is(v) => write_value(rt, v),
-        Answer::Raises(e, _) => rt.print(constant::error_number(e)),
+fn write_answer(rt: &impl Print, answer: Result<Value, OperatorError>) -> io::Result<()> {
+    match answer {
+        Ok(v) => write_value(rt, v),
+        Err(e) => rt.print(constant::error_number(e.error)),
     }
 }
 
-fn write_whole(rt: &impl Print, w: Whole) -> io::Result<()> {
-    match w {
-        Whole::Exact(x) => write_value(rt, Value::Integer(x)),
-        Whole::NotWhole => rt.print("none"),
+fn write_whole(rt: &impl Print, whole: Option<i64>) -> io::Result<()> {
+    match whole {
+        Some(x) => write_value(rt, Value::Integer(x)),
+        None => rt.print("none"),
     }
 }
 
@@ -51,17 +50,10 @@ fn write_line(rt: &impl Print, number: u64, t: Told) -> io::Result<()> {
     rt.println("")
 }
 
-// The example's number of the place in the list.
-fn number_of(n: u64) -> u64 {
-    if n < 12 {
-        return n + 1;
-    }
-    13
-}
-
 fn main(rt: HostRuntime) -> io::Result<()> {
+    // From the thirteenth on they are all of W13.
     for n in 0..16 {
-        write_line(&rt, number_of(n), worked::example(n))?;
+        write_line(&rt, (n + 1).min(13), worked::example(n))?;
     }
     Ok(())
 }

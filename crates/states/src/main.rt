@@ -24,10 +24,8 @@
 
 ghost use Rattle.std.specs.Prelude.{◌≤◌, length, IfOk};
 
-use checker::Checked;
-use image::Judged;
+use checker::Refusal;
 use std::io;
-use std::io::Read;
 use step::Outcome;
 
 // ---- what is written
@@ -36,14 +34,14 @@ fn print(rt: &impl Print, x: u64) -> io::Result<()> {
     print!(rt; " {x}")
 }
 
-fn print_started(rt: &impl Print, r: Checked) -> io::Result<()> {
+fn print_started(rt: &impl Print, r: Result<(), Refusal>) -> io::Result<()> {
     rt.print(">")?;
     match r {
-        Checked::Accepted => print(rt, 0),
-        Checked::Refused(n, q, i) => {
-            print(rt, n as u64)?;
-            print(rt, q as u64)?;
-            print(rt, i as u64)
+        Ok(()) => print(rt, 0),
+        Err(refusal) => {
+            print(rt, refusal.number as u64)?;
+            print(rt, refusal.prototype as u64)?;
+            print(rt, refusal.instruction as u64)
         }
     }
 }
@@ -68,7 +66,7 @@ fn print_cell(rt: &impl Print, slice: &[u8], i: usize, was: u64, is: u64) -> io:
 fn print_words(rt: &impl Print, slice: &[u8], was: &[u64], is: &[u64]) -> io::Result<()> {
     let mut i = 0;
     while i < is.len() {
-        print_cell(rt, slice, i, slices::word_at(was, 0, i), is[i])?;
+        print_cell(rt, slice, i, slices::get(was, 0, i), is[i])?;
         i += 1;
     }
     Ok(())
@@ -81,7 +79,7 @@ fn wide(b: u8) -> u64 {
 fn print_bytes(rt: &impl Print, slice: &[u8], was: &[u8], is: &[u8]) -> io::Result<()> {
     let mut i = 0;
     while i < is.len() {
-        print_cell(rt, slice, i, wide(slices::byte_at(was, 0, i)), wide(is[i]))?;
+        print_cell(rt, slice, i, wide(slices::get(was, 0, i)), wide(is[i]))?;
         i += 1;
     }
     Ok(())
@@ -118,14 +116,14 @@ fn put(
 ) {
     let b = (v % 256) as u8;
     match slice {
-        b't' => slices::put_word(table, 0, i, v),
-        b'c' => slices::put_word(code, 0, i, v),
-        b'k' => slices::put_byte(const_kinds, 0, i, b),
-        b'w' => slices::put_word(const_words, 0, i, v),
-        b'x' => slices::put_byte(texts, 0, i, b),
-        b'f' => slices::put_word(frames, 0, i, v),
-        b'r' => slices::put_byte(kinds, 0, i, b),
-        _ => slices::put_word(words, 0, i, v),
+        b't' => slices::put(table, 0, i, v),
+        b'c' => slices::put(code, 0, i, v),
+        b'k' => slices::put(const_kinds, 0, i, b),
+        b'w' => slices::put(const_words, 0, i, v),
+        b'x' => slices::put(texts, 0, i, b),
+        b'f' => slices::put(frames, 0, i, v),
+        b'r' => slices::put(kinds, 0, i, b),
+        _ => slices::put(words, 0, i, v),
     }
 }
 
@@ -151,7 +149,7 @@ fn change(
     let i = lists::number_at(line, 2, colon - 2) as usize;
     let v = lists::number_at(line, first, line.len() - first);
     put(
-        slices::byte_at(line, 0, 1),
+        slices::get(line, 0, 1),
         i,
         v,
         table,
@@ -168,15 +166,15 @@ fn change(
 // No closure entry and no cell is in use: 64 of nine words and 128 of one behind the activations' closures, the cells'
 // values behind the registers.
 fn free(frames: &mut [u64], kinds: &mut [u8], words: &mut [u64]) {
-    slices::fill_words(frames, state::ENTRY_AT, state::FRAMES - state::ENTRY_AT, 0);
-    slices::fill_bytes(kinds, state::CELL_ROOM, state::CELLS, 0);
-    slices::fill_words(words, state::CELL_ROOM, state::CELLS, 0);
+    slices::fill(frames, state::ENTRY_AT, state::FRAMES - state::ENTRY_AT, 0);
+    slices::fill(kinds, state::CELL_ROOM, state::CELLS, 0);
+    slices::fill(words, state::CELL_ROOM, state::CELLS, 0);
 }
 
 fn clear(frames: &mut [u64], kinds: &mut [u8], words: &mut [u64]) {
-    slices::fill_words(frames, 0, frames.len(), 0);
-    slices::fill_bytes(kinds, 0, kinds.len(), 0);
-    slices::fill_words(words, 0, words.len(), 0);
+    slices::fill(frames, 0, frames.len(), 0);
+    slices::fill(kinds, 0, kinds.len(), 0);
+    slices::fill(words, 0, words.len(), 0);
 }
 
 // ---- answers
@@ -187,8 +185,8 @@ fn take_arguments(line: &[u8], kinds: &mut [u8], words: &mut [u64]) {
     while i < 15 {
         let at = 12 + 18 * i;
         let k = (lists::number_at(line, at, 2) % 256) as u8;
-        slices::put_byte(kinds, 0, i, k);
-        slices::put_word(words, 0, i, lists::number_at(line, at + 2, 16));
+        slices::put(kinds, 0, i, k);
+        slices::put(words, 0, i, lists::number_at(line, at + 2, 16));
         i += 1;
     }
 }
@@ -347,7 +345,7 @@ fn act(
     kinds: &mut [u8],
     words: &mut [u64],
 ) -> io::Result<()> {
-    match slices::byte_at(line, 0, 0) {
+    match slices::get(line, 0, 0) {
         b'>' => start(
             rt,
             line,
@@ -403,9 +401,9 @@ fn answer(
     let mut was_frames = [0u64; state::FRAMES + 1];
     let mut was_kinds = [0u8; state::REGISTERS + 1];
     let mut was_words = [0u64; state::REGISTERS + 1];
-    slices::take_words(frames, 0, &mut was_frames, 0, state::FRAMES + 1);
-    slices::take_bytes(kinds, 0, &mut was_kinds, 0, state::REGISTERS + 1);
-    slices::take_words(words, 0, &mut was_words, 0, state::REGISTERS + 1);
+    slices::copy_from(frames, 0, &mut was_frames, 0, state::FRAMES + 1);
+    slices::copy_from(kinds, 0, &mut was_kinds, 0, state::REGISTERS + 1);
+    slices::copy_from(words, 0, &mut was_words, 0, state::REGISTERS + 1);
     act(
         rt,
         line,
@@ -436,7 +434,7 @@ fn play_line(
     kinds: &mut [u8],
     words: &mut [u64],
 ) -> io::Result<()> {
-    match slices::byte_at(line, 0, 0) {
+    match slices::get(line, 0, 0) {
         b'<' => Ok(()),
         b'=' => {
             change(
@@ -529,7 +527,7 @@ fn play_case(rt: &impl Print, s: &[u8]) -> io::Result<()> {
         &mut const_words,
         &mut texts,
     );
-    if let Judged::Refused(_, _) = r {
+    if r.is_err() {
         return rt.println("not read");
     }
     play_lines(
@@ -558,19 +556,8 @@ fn play(rt: &impl Print, s: &[u8]) -> io::Result<()> {
     Ok(())
 }
 
-// Fills a buffer from the input, or as much of it as the input has. Answers how many bytes that is.
-fn read_full(rt: &impl Input, buffer: &mut [u8]) -> io::Result<usize>
-    ensures { IfOk result (λ n. n ≤ length buffer.new) }
-{
-    let room = buffer.len();
-    let mut rest = &mut buffer[..];
-    io::copy(&mut rt.reader().take(room as u64), &mut rest)?;
-    let left = rest.len();
-    Ok(room.saturating_sub(left))
-}
-
 fn main(rt: HostRuntime) -> io::Result<()> {
     let mut list = [0u8; 1048576];
-    let n = read_full(&rt, &mut list)?;
+    let n = lists::read_full(&rt, &mut list)?;
     play(&rt, &list[..n])
 }

@@ -11,7 +11,7 @@ use Rattle.image.proofs.Trip.{round_trip, accepted_said}
 use Rattle.storage.specs.Layout.{Storage}
 use Rattle.storage.specs.Fields.{prototypes_of}
 use Rattle.storage.specs.Stored.{ReadsTo, valid_of}
-use Rattle.storage.specs.declared.Validity.TheVariants.{Bytes, Six}
+use Rattle.std.specs.Prelude.{Some, None}
 use Rattle.storage.proofs.Runs.{runs_accepted}
 use Rattle.storage.proofs.Described.{descs_start}
 use Rattle.storage.proofs.Reading.{short_accepted, reads_frames, frames_reads}
@@ -38,8 +38,8 @@ whole-reads {n} {S} w =
     (short_accepted (written w.frames) (prototypes_of S.table) (omega (arith, w.size, w.short)) (rw e (runs_accepted w.runs 0)))
     (record { runs = rw e w.runs; lies = rw e w.lies; descriptors = rw e w.descs.later })
 
-pub bytes : {n : ℕ} {S : Storage} → Whole n S → Bytes n ≡ valid_of S
-bytes {n} w = let e : length (written w.frames) ≡ n = omega (arith, w.size) in sym (bytes-answer (whole-reads w) ∙ ap Bytes e)
+pub bytes : {n : ℕ} {S : Storage} → Whole n S → Some n ≡ valid_of S
+bytes {n} w = let e : length (written w.frames) ≡ n = omega (arith, w.size) in sym (bytes-answer (whole-reads w) ∙ ap Some e)
 
-pub none : (S : Storage) → ((n : ℕ) → Whole n S → ⊥) → Six ≡ valid_of S
+pub none : (S : Storage) → ((n : ℕ) → Whole n S → ⊥) → None ≡ valid_of S
 none S h = sym (six-answer S (λ s r. h (length s) (reads_whole r)))

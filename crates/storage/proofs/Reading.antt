@@ -8,9 +8,8 @@ use lib.ListN.{length, take}
 use lib.Dec.{ltb}
 use borrow.Author.Tests.{le-ltb, ltb-false, eqb-true, eq-eqb}
 use Rattle.image.specs.Frames.{frames_of}
-use Rattle.image.specs.Judge.{start, judge_frames, judge_of}
-use Rattle.image.specs.declared.Judged.{Judged}
-use Rattle.image.specs.declared.Judged.TheVariants.{Accepted, Refused}
+use Rattle.image.specs.Judge.{Judged, start, judge_frames, judge_of}
+use Rattle.std.specs.Prelude.{Ok, Err}
 use Rattle.choices.proofs.Choices.{cond_cases, cond-true}
 use Rattle.storage.specs.Layout.{Storage, contents_of}
 use Rattle.storage.specs.Fields.{prototypes_of}
@@ -42,7 +41,7 @@ take-starts (x ∷ xs) (y ∷ l) e =
 
 pub back-reads : (s : List ℕ) (S : Storage) (j : Judged) → judge_of s ≡ j → back_in j (frames_of s) S ≡ true → ReadsTo s S
 unfolding back_in stands_in
-back-reads s S (Accepted n) e h =
+back-reads s S (Ok n) e h =
     let g = cond-true _ _ h in
     let a = cond-true _ _ g.0 in
     let b = cond-true _ _ a.1 in
@@ -58,7 +57,7 @@ back-reads s S (Accepted n) e h =
       texts = starts-take _ _ d.1;
       descriptors = g.1;
     }
-back-reads s S (Refused k n) e h = let z : ◌≡◌ {A = ℕ} 0 1 = cc in absurd (omega arith)
+back-reads s S (Err r) e h = let z : ◌≡◌ {A = ℕ} 0 1 = cc in absurd (omega arith)
 
 pub reads-back : {s : List ℕ} {S : Storage} → ReadsTo s S → back_in (judge_of s) (frames_of s) S ≡ true
 unfolding back_in stands_in
@@ -77,7 +76,7 @@ reads-back {s} {S} r =
 -- ---- the judgement
 
 abbrev Short : List ℕ → ℕ → Judged → Type 0
-Short s q j = j ≡ Accepted q → (length s ≤ 65536) × (judge_frames start 0 (frames_of s) ≡ Accepted q)
+Short s q j = j ≡ Ok q → (length s ≤ 65536) × (judge_frames start 0 (frames_of s) ≡ Ok q)
 
 pub accepted_short : (s : List ℕ) (q : ℕ) → Short s q (judge_of s)
 unfolding judge_of
@@ -86,7 +85,7 @@ accepted_short s q =
     (λ h e. let z : ◌≡◌ {A = ℕ} 0 1 = cc in absurd (omega arith))
     (λ h e. (ltb-false _ _ h, e))
 
-pub short_accepted : (s : List ℕ) (q : ℕ) → length s ≤ 65536 → judge_frames start 0 (frames_of s) ≡ Accepted q → judge_of s ≡ Accepted q
+pub short_accepted : (s : List ℕ) (q : ℕ) → length s ≤ 65536 → judge_frames start 0 (frames_of s) ≡ Ok q → judge_of s ≡ Ok q
 unfolding judge_of
 short_accepted s q h e = simp (le-ltb 65536 (length s) h) e
 
@@ -112,7 +111,7 @@ reads_frames {s} {S} r =
       descriptors = r.descriptors;
     }
 
-pub frames_reads : {s : List ℕ} {S : Storage} → judge_of s ≡ Accepted (prototypes_of S.table) → FramesIn s S → ReadsTo s S
+pub frames_reads : {s : List ℕ} {S : Storage} → judge_of s ≡ Ok (prototypes_of S.table) → FramesIn s S → ReadsTo s S
 frames_reads {s} {S} e f =
     let h = entry-of f.runs 0 0 in
     record {

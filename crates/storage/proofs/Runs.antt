@@ -7,10 +7,11 @@ use lib.Dec.{leb, ltb, eqb}
 use borrow.Author.Tests.{ltb-true, leb-true, eqb-true}
 use Rattle.image.specs.Frames.{F, opens, const, str, code, ends, bad, desc, shape}
 use Rattle.image.specs.Judge.{const_step, code_step, desc_step, frame_step, at_end, judge_after, judge_frames}
+use Rattle.image.specs.declared.ReadError.{ReadError}
 use Rattle.image.specs.declared.Counts.{Counts}
 use Rattle.image.specs.declared.Step.{Step}
 use Rattle.image.specs.declared.Step.TheVariants.{On, Done, No}
-use Rattle.image.specs.declared.Judged.TheVariants.{Accepted}
+use Rattle.std.specs.Prelude.{Ok}
 use Rattle.choices.proofs.Choices.{cond_cases}
 use Rattle.storage.specs.Layout.{descriptors_ahead}
 
@@ -21,24 +22,24 @@ pub data Runs : Counts → ℕ → List F → Type 0 where
   next : {st u : Counts} {q : ℕ} {f : F} {fs : List F} → frame_step st (shape f) ≡ On u → Runs u q fs → Runs st q (f ∷ fs)
 
 module _ (f : F) (fs : List F) (st : Counts) (n q : ℕ) where
-  by_end : frame_step st (shape f) ≡ Done → (gs : List F) → at_end st.protos (n + 1) gs ≡ Accepted q → Runs st q (f ∷ gs)
+  by_end : frame_step st (shape f) ≡ Done → (gs : List F) → at_end st.protos (n + 1) gs ≡ Ok q → Runs st q (f ∷ gs)
   unfolding at_end
   by_end r [] e = last {q = q} r (cc)
   by_end r (g ∷ gs) e = let z : ◌≡◌ {A = ℕ} 0 1 = cc in absurd (omega arith)
 
-  by-step : (u : Step) → frame_step st (shape f) ≡ u → judge_after u st.protos n fs (λ t. judge_frames t (n + 1) fs) ≡ Accepted q
-      → ((t : Counts) → judge_frames t (n + 1) fs ≡ Accepted q → Runs t q fs) → Runs st q (f ∷ fs)
+  by-step : (u : Step) → frame_step st (shape f) ≡ u → judge_after u st.protos n fs (λ t. judge_frames t (n + 1) fs) ≡ Ok q
+      → ((t : Counts) → judge_frames t (n + 1) fs ≡ Ok q → Runs t q fs) → Runs st q (f ∷ fs)
   unfolding judge_after
   by-step (On t) r e ih = next r (ih t e)
   by-step Done r e ih = by_end r fs e
   by-step (No k) r e ih = let z : ◌≡◌ {A = ℕ} 0 1 = cc in absurd (omega arith)
 
-pub accepted_runs : (fs : List F) (st : Counts) (n q : ℕ) → judge_frames st n fs ≡ Accepted q → Runs st q fs
+pub accepted_runs : (fs : List F) (st : Counts) (n q : ℕ) → judge_frames st n fs ≡ Ok q → Runs st q fs
 unfolding judge_frames
 accepted_runs [] st n q e = let z : ◌≡◌ {A = ℕ} 0 1 = cc in absurd (omega arith)
 accepted_runs (f ∷ fs) st n q e = by-step f fs st n q (frame_step st (shape f)) refl e (λ t. accepted_runs fs t (n + 1) q)
 
-pub runs_accepted : {st : Counts} {q : ℕ} {fs : List F} → Runs st q fs → (n : ℕ) → judge_frames st n fs ≡ Accepted q
+pub runs_accepted : {st : Counts} {q : ℕ} {fs : List F} → Runs st q fs → (n : ℕ) → judge_frames st n fs ≡ Ok q
 unfolding judge_frames judge_after at_end
 runs_accepted (last r e) n = rw (r, e)
 runs_accepted (next r h) n = rw r (runs_accepted h (n + 1))
@@ -61,7 +62,7 @@ pub data Told (st : Counts) : F → Step → Type 0 where
   instruction : {w : ℕ} → 1 ≤ st.protos → Told st (code w) (On (code_more st))
   ended : {m : ℕ} → m ≡ st.protos → Told st (ends m) Done
   described : {k n : ℕ} → 1 ≤ st.protos → st.consts ≡ 0 → st.codes ≡ 0 → st.descs < 8 → Told st (desc k n) (On (desc_more st))
-  refused : {f : F} {k : ℕ} → Told st f (No k)
+  refused : {f : F} {k : ReadError} → Told st f (No k)
 
 module _ (st : Counts) (f : F) where
   const-told : (1 ≤ st.protos → st.codes ≡ 0 → Told st f (On (const_more st))) → Told st f (const_step st)

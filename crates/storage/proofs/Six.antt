@@ -13,7 +13,7 @@ use Rattle.choices.proofs.Choices.{by_bool}
 use Rattle.image.proofs.Trip.{round_trip, accepted_said}
 use Rattle.storage.specs.Layout.{Storage}
 use Rattle.storage.specs.Stored.{ReadsTo, image_in, reads_back, valid_of}
-use Rattle.storage.specs.declared.Validity.TheVariants.{Bytes, Six}
+use Rattle.std.specs.Prelude.{Some, None}
 use Rattle.storage.proofs.Order.{frames-in}
 use Rattle.storage.proofs.Reading.{back-reads, reads-back, accepted_short, reads_frames}
 
@@ -54,20 +54,20 @@ six S = (
 pub fits : {s : List ℕ} {S : Storage} → ReadsTo s S → length s ≤ 65536
 fits {s} r = (accepted_short s r.count r.accepted).0
 
--- ---- the answer of `valid`: the length of the image, or 6
+-- ---- the answer of `valid`: the length of the image, or none, which is 6
 
-pub bytes-answer : {s : List ℕ} {S : Storage} → ReadsTo s S → valid_of S ≡ Bytes (length s)
+pub bytes-answer : {s : List ℕ} {S : Storage} → ReadsTo s S → valid_of S ≡ Some (length s)
 unfolding valid_of
 bytes-answer r = rw (readable_back r, only-image r)
 
-pub six-answer : (S : Storage) → ((s : List ℕ) → ReadsTo s S → ⊥) → valid_of S ≡ Six
+pub six-answer : (S : Storage) → ((s : List ℕ) → ReadsTo s S → ⊥) → valid_of S ≡ None
 unfolding valid_of
 six-answer S n = rw ((six S).1 n)
 
-pub answered-bytes : (S : Storage) (b : ℕ) → valid_of S ≡ Bytes b → ReadsTo (image_in S) S × (length (image_in S) ≡ b)
+pub answered-bytes : (S : Storage) (b : ℕ) → valid_of S ≡ Some b → ReadsTo (image_in S) S × (length (image_in S) ≡ b)
 unfolding valid_of
 answered-bytes S b =
     by_bool (reads_back S) (λ h. rw h (λ e. (readable S h, cc))) (λ h. rw h (λ e. let z : ◌≡◌ {A = ℕ} 0 1 = cc in absurd (omega arith)))
 
-pub answered-six : (S : Storage) → valid_of S ≡ Six → (s : List ℕ) → ReadsTo s S → ⊥
+pub answered-six : (S : Storage) → valid_of S ≡ None → (s : List ℕ) → ReadsTo s S → ⊥
 answered-six S e s r = let g = bytes-answer r in let z : ◌≡◌ {A = ℕ} 0 1 = cc in omega arith

@@ -7,6 +7,7 @@ use lib.ListN.{length}
 use Rattle.image.specs.Frames.{F, shape}
 use Rattle.image.specs.Judge.{frame_step, start}
 use Rattle.image.specs.Write.{written}
+use Rattle.image.specs.declared.ReadError.{ReadError}
 use Rattle.image.specs.declared.Counts.{Counts}
 use Rattle.image.specs.declared.Frame.{Frame}
 use Rattle.image.specs.declared.Frame.TheVariants.{Open, Const, Str, Code, End, Bad, Desc}
@@ -126,11 +127,11 @@ module _ (t : Tops) (S : Storage) where
   held_on {st} (described a b c d) e h l = omega (arith, l.0, here-held t S.table st.protos e)
 
 -- a frame that is counted, or ends, is one
-on-frame : (st u : Counts) (fr : Frame) → frame_step st fr ≡ On u → (k : ℕ) → fr ≡ Bad k → ⊥
+on-frame : (st u : Counts) (fr : Frame) → frame_step st fr ≡ On u → (k : ReadError) → fr ≡ Bad k → ⊥
 unfolding frame_step
 on-frame st u fr r k e = let g = rw e at r in let z : ◌≡◌ {A = ℕ} 0 1 = cc in omega arith
 
-done-frame : (st : Counts) (fr : Frame) → frame_step st fr ≡ Done → (k : ℕ) → fr ≡ Bad k → ⊥
+done-frame : (st : Counts) (fr : Frame) → frame_step st fr ≡ Done → (k : ReadError) → fr ≡ Bad k → ⊥
 unfolding frame_step
 done-frame st fr r k e = let g = rw e at r in let z : ◌≡◌ {A = ℕ} 0 1 = cc in omega arith
 
@@ -147,13 +148,13 @@ module _ {t : Tops} {st : Counts} {b : ℕ} {S : Storage} {fr : Frame} (T : Turn
   f : F
   f = real t S fr
 
-  there : ((k : ℕ) → fr ≡ Bad k → ⊥) → Tells t S f fr
+  there : ((k : ReadError) → fr ≡ Bad k → ⊥) → Tells t S f fr
   unfolding f
   there =
-      subst (λ (x : Frame). ((k : ℕ) → x ≡ Bad k → ⊥) → Tells t S (real t S x) x) (sym T.says)
+      subst (λ (x : Frame). ((k : ReadError) → x ≡ Bad k → ⊥) → Tells t S (real t S x) x) (sym T.says)
       (sound t S T.bytes (omega (arith, T.walk.entries, T.walk.few)))
 
-  small : ((k : ℕ) → fr ≡ Bad k → ⊥) → size_of fr ≤ 1000
+  small : ((k : ReadError) → fr ≡ Bad k → ⊥) → size_of fr ≤ 1000
   small h = let a = there h in rw (← a.told) (size-said f a.said)
 
   pub on_small : (u : Counts) → frame_step st fr ≡ On u → size_of fr ≤ 1000
@@ -168,7 +169,7 @@ module _ {t : Tops} {st : Counts} {b : ℕ} {S : Storage} {fr : Frame} (T : Turn
   head r (more y ys) l D = sym (T.says ∙ heads t S T.walk.inside T.walk.entries r y l D)
 
   -- it agrees with what the table says of descriptors
-  agreed : ((k : ℕ) → fr ≡ Bad k → ⊥) → Agrees S.table st.protos t.descs f
+  agreed : ((k : ReadError) → fr ≡ Bad k → ⊥) → Agrees S.table st.protos t.descs f
   unfolding f
   agreed h = agrees t S fr st.protos T.walk.entries T.walk.held (there h).left
 
@@ -235,12 +236,12 @@ module _ {t : Tops} {st : Counts} {b : ℕ} {S : Storage} {fr : Frame} (T : Turn
 
   -- ---- it is refused: no image is left
 
-  refuse : (k : ℕ) → frame_step st fr ≡ No k → {q : ℕ} {fs : List F} → Runs st q fs → Stands t (all t fs) S → AllSaid fs
+  refuse : (k : ReadError) → frame_step st fr ≡ No k → {q : ℕ} {fs : List F} → Runs st q fs → Stands t (all t fs) S → AllSaid fs
       → Descs S.table st.protos t.descs fs → ⊥
   refuse k r (last g h) l ys D = let c = ap (frame_step st) (head (last g h) ys l D) in let z : ◌≡◌ {A = ℕ} 0 1 = cc in omega arith
   refuse k r (next g h) l ys D = let c = ap (frame_step st) (head (next g h) ys l D) in let z : ◌≡◌ {A = ℕ} 0 1 = cc in omega arith
 
-  pub walk_no : (k : ℕ) → frame_step st fr ≡ No k → (n : ℕ) → Whole n S → ⊥
+  pub walk_no : (k : ReadError) → frame_step st fr ≡ No k → (n : ℕ) → Whole n S → ⊥
   walk_no k r n R = let Q = T.walk.forth n R in refuse k r Q.runs Q.lies Q.said Q.descs
 
   -- ---- it is the last: the image ends here

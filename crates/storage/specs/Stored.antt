@@ -1,16 +1,12 @@
 -- The image that a storage says, and the test behind 6: "no image reads to this storage's prototypes". Assumes nothing.
 -- proofs/Six shows both directions: `reads_back S` is true exactly when there is an image that reads to S, and `image_in S` is then the only one.
-use Rattle.std.specs.Prelude.{ℕ, zero, suc, ◌+◌, ◌/◌, ◌%◌, ◌≡◌, Bool, true, false, cond, List, [], ◌∷◌, ◌++◌, length, get_or, take, eqb}
+use Rattle.std.specs.Prelude.{ℕ, zero, suc, ◌+◌, ◌/◌, ◌%◌, ◌≡◌, Bool, true, false, cond, List, [], ◌∷◌, ◌++◌, length, get_or, take, eqb, Option, Some, None, Ok, Err}
 use Rattle.slices.specs.Ranges.{text_at}
 use Rattle.image.specs.Frames.{F, opens, const, str, code, ends, bad, desc, frames_of}
-use Rattle.image.specs.Judge.{judge_of}
+use Rattle.image.specs.Judge.{Judged, judge_of}
 use Rattle.image.specs.Write.{written}
-use Rattle.image.specs.declared.Judged.{Judged}
-use Rattle.image.specs.declared.Judged.TheVariants.{Accepted, Refused}
 use Rattle.storage.specs.Layout.{Storage, contents_of, descriptor_block}
 use Rattle.storage.specs.Fields.{prototypes_of, registers_of, parameters_of, first_constant, first_instruction, constants_of, instructions_of, descriptors_place, descriptors_of, descriptor_of}
-use Rattle.storage.specs.declared.Validity.{Validity}
-use Rattle.storage.specs.declared.Validity.TheVariants.{Bytes, Six}
 
 -- ---- the frames that a storage says
 
@@ -77,7 +73,7 @@ describes q (desc k n ∷ fs) l = describes q fs l
 -- an image reads to a storage: it is accepted, and what it fills stands at the front of each slice, and its descriptors at their places
 pub record ReadsTo (s : List ℕ) (S : Storage) : Type 0 where
   pub count : ℕ
-  pub accepted : judge_of s ≡ Accepted count
+  pub accepted : judge_of s ≡ Ok count
   pub table : take (length (contents_of count (frames_of s)).table) S.table ≡ (contents_of count (frames_of s)).table
   pub code : take (length (contents_of count (frames_of s)).code) S.code ≡ (contents_of count (frames_of s)).code
   pub kinds : take (length (contents_of count (frames_of s)).kinds) S.kinds ≡ (contents_of count (frames_of s)).kinds
@@ -100,13 +96,13 @@ stands_in xs S =
     false
 
 unfoldable pub back_in : Judged → List F → Storage → Bool
-back_in (Accepted n) fs S = cond (stands_in (contents_of n fs) S) (describes 0 fs S.table) false
-back_in (Refused k n) fs S = false
+back_in (Ok n) fs S = cond (stands_in (contents_of n fs) S) (describes 0 fs S.table) false
+back_in (Err e) fs S = false
 
 -- what would be written reads back to this storage
 unfoldable pub reads_back : Storage → Bool
 reads_back S = back_in (judge_of (image_in S)) (frames_of (image_in S)) S
 
--- the length of the image, or 6
-unfoldable pub valid_of : Storage → Validity
-valid_of S = cond (reads_back S) (Bytes (length (image_in S))) Six
+-- the length of the image; none where 6 is the answer
+unfoldable pub valid_of : Storage → Option ℕ
+valid_of S = cond (reads_back S) (Some (length (image_in S))) None

@@ -8,7 +8,7 @@ ghost use Rattle.storage.specs.Fields.{prototypes_of, field, registers_of, param
 ghost use Rattle.storage.specs.Stored.{valid_of};
 ghost use Rattle.storage.specs.Cursor.{next_text, next_const, next_code, next_entry, next_desc, next_frame, size_of, past};
 
-use image::{Counts, Frame, Step};
+use image::{Counts, Frame, ReadError, Step};
 
 // The published sizes: how long the slices have to be.
 pub const TABLE: usize = 421;
@@ -72,7 +72,7 @@ pub const DESCRIPTORS: usize = 9;
 pub fn prototypes(table: &[u64]) -> usize
     ensures { result ≡ prototypes_of table.now }
 {
-    slices::word_at(table, 0, PROTOTYPES_AT) as usize
+    slices::get(table, 0, PROTOTYPES_AT) as usize
 }
 
 // Field i of prototype q's entry; a prototype that is not there has zeros.
@@ -83,7 +83,7 @@ fn field_at(table: &[u64], q: usize, i: usize) -> usize
     if table.len() <= q {
         return 0;
     }
-    slices::word_at(table, ENTRIES_AT + ENTRY * q, i) as usize
+    slices::get(table, ENTRIES_AT + ENTRY * q, i) as usize
 }
 
 pub fn registers(table: &[u64], q: usize) -> usize
@@ -117,7 +117,7 @@ pub fn descriptors(table: &[u64], q: usize) -> usize
     if table.len() <= q {
         return 0;
     }
-    slices::word_at(table, DESCRIPTORS_AT, DESCRIPTORS * q) as usize
+    slices::get(table, DESCRIPTORS_AT, DESCRIPTORS * q) as usize
 }
 
 // Its descriptor i: a register of the parent, or 256 and a number of the parent's upvalues.
@@ -130,7 +130,7 @@ pub fn descriptor(table: &[u64], q: usize, i: usize) -> usize
     if table.len() <= i {
         return 0;
     }
-    slices::word_at(table, DESCRIPTORS_AT + DESCRIPTORS * q, 1 + i) as usize
+    slices::get(table, DESCRIPTORS_AT + DESCRIPTORS * q, 1 + i) as usize
 }
 
 // How much field i grows from prototype q's entry to the next.
@@ -166,7 +166,7 @@ pub fn instruction(table: &[u64], code: &[u64], q: usize, i: usize) -> u64
     ensures { result ≡ instruction_at table.now code.now q i }
 {
     let first = first_instruction(table, q);
-    slices::word_at(code, first, i)
+    slices::get(code, first, i)
 }
 
 // Constant c of prototype q, as a register holds it.
@@ -174,7 +174,7 @@ pub fn constant_kind(table: &[u64], const_kinds: &[u8], q: usize, c: usize) -> u
     ensures { result ≡ constant_kind table.now const_kinds.now q c }
 {
     let first = first_constant(table, q);
-    slices::byte_at(const_kinds, first, c)
+    slices::get(const_kinds, first, c)
 }
 
 pub fn constant_word(
@@ -187,11 +187,11 @@ pub fn constant_word(
     ensures { result ≡ constant_word table.now const_kinds.now const_words.now q c }
 {
     let first = first_constant(table, q);
-    let kind = slices::byte_at(const_kinds, first, c);
+    let kind = slices::get(const_kinds, first, c);
     if kind == 4 {
         return (first + c) as u64;
     }
-    slices::word_at(const_words, first, c)
+    slices::get(const_words, first, c)
 }
 
 // ---- the test behind 6: the storage's frames, one after the other
@@ -214,15 +214,15 @@ fn next_text(top: usize, w: u64, n: usize) -> Frame
 {
     let base = (top as u64) * 65536;
     if w < base {
-        return Frame::Bad(6);
+        return Frame::Bad(ReadError::BadFrame);
     }
     let len = w - base;
     if 64 < len {
-        return Frame::Bad(6);
+        return Frame::Bad(ReadError::BadFrame);
     }
     let m = len as usize;
     if n < top + m {
-        return Frame::Bad(6);
+        return Frame::Bad(ReadError::BadFrame);
     }
     Frame::Str(m)
 }
@@ -234,10 +234,10 @@ fn next_const(t: Tops, const_kinds: &[u8], const_words: &[u64], texts: &[u8]) ->
     let c = t.consts;
     let top = t.texts;
     if const_kinds.len() <= c {
-        return Frame::Bad(6);
+        return Frame::Bad(ReadError::BadFrame);
     }
     if const_words.len() <= c {
-        return Frame::Bad(6);
+        return Frame::Bad(ReadError::BadFrame);
     }
     let kind = const_kinds[c];
     let w = const_words[c];
@@ -245,12 +245,12 @@ fn next_const(t: Tops, const_kinds: &[u8], const_words: &[u64], texts: &[u8]) ->
         if w <= image::most_of(kind) {
             return Frame::Const(kind, w);
         }
-        return Frame::Bad(6);
+        return Frame::Bad(ReadError::BadFrame);
     }
     if kind == 4 {
         return next_text(top, w, texts.len());
     }
-    Frame::Bad(6)
+    Frame::Bad(ReadError::BadFrame)
 }
 
 fn next_code(t: Tops, code: &[u64]) -> Frame
@@ -258,13 +258,13 @@ fn next_code(t: Tops, code: &[u64]) -> Frame
 {
     let k = t.codes;
     if code.len() <= k {
-        return Frame::Bad(6);
+        return Frame::Bad(ReadError::BadFrame);
     }
     let w = code[k];
     if w < 0x100_0000_0000 {
         return Frame::Code(w);
     }
-    Frame::Bad(6)
+    Frame::Bad(ReadError::BadFrame)
 }
 
 // An entry of the table: of no registers, the closing one.
@@ -277,13 +277,13 @@ fn next_entry(t: Tops, r: u64, p: u64) -> Frame
             let at = t.entries;
             return Frame::End((at / 4) as u8);
         }
-        return Frame::Bad(6);
+        return Frame::Bad(ReadError::BadFrame);
     }
     if 255 < r {
-        return Frame::Bad(6);
+        return Frame::Bad(ReadError::BadFrame);
     }
     if r < p {
-        return Frame::Bad(6);
+        return Frame::Bad(ReadError::BadFrame);
     }
     Frame::Open(r as u8, p as u8)
 }
@@ -295,7 +295,7 @@ fn next_desc(w: usize) -> Frame
     if w < 512 {
         return Frame::Desc((w / 256) as u8, (w % 256) as u8);
     }
-    Frame::Bad(6)
+    Frame::Bad(ReadError::BadFrame)
 }
 
 // How many descriptors the prototype that was opened last has; 0 where none is open.
@@ -324,7 +324,7 @@ fn next_from(
     let c = t.consts as u64;
     let k = t.codes as u64;
     if table.len() < at + 4 {
-        return Frame::Bad(6);
+        return Frame::Bad(ReadError::BadFrame);
     }
     let d = t.descs;
     if d < descriptors_here(table, at) {
@@ -342,9 +342,9 @@ fn next_from(
         if k == ks {
             return next_entry(t, table[at], table[at + 1]);
         }
-        return Frame::Bad(6);
+        return Frame::Bad(ReadError::BadFrame);
     }
-    Frame::Bad(6)
+    Frame::Bad(ReadError::BadFrame)
 }
 
 // How many bytes a frame's line has.
@@ -425,21 +425,15 @@ fn past_of(t: Tops, f: Frame) -> Tops
     }
 }
 
-// Whether some image reads to a storage: its number of bytes, or 6.
-#[derive(Clone, Copy)]
-pub enum Validity {
-    Bytes(usize),
-    Six,
-}
-
-// The frames one after the other, judged as the reader judges them. A byte more than an image may have ends it.
+// How many bytes the image has that reads to a storage; `None` where none does, and 6 is the answer. The frames go one after
+// the other, judged as the reader judges them. A byte more than an image may have ends it.
 pub fn valid(
     table: &[u64],
     code: &[u64],
     const_kinds: &[u8],
     const_words: &[u64],
     texts: &[u8],
-) -> Validity
+) -> Option<usize>
     ensures { result ≡ valid_of (storage_in table code const_kinds const_words texts) }
 {
     let mut t = Tops {
@@ -461,17 +455,17 @@ pub fn valid(
         let u = image::step_on(st, f);
         match u {
             Step::No(_) => {
-                return Validity::Six;
+                return None;
             }
             Step::Done => {
                 let n = b + size_of(f);
                 if 65536 < n {
-                    return Validity::Six;
+                    return None;
                 }
                 if prototypes(table) == st.protos {
-                    return Validity::Bytes(n);
+                    return Some(n);
                 }
-                return Validity::Six;
+                return None;
             }
             Step::On(v) => {
                 t = past_of(t, f);
@@ -480,5 +474,5 @@ pub fn valid(
             }
         }
     }
-    Validity::Six
+    None
 }

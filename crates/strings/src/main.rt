@@ -22,20 +22,6 @@ use constant::Value;
 use effects::{Effect, Go};
 use figures::Figure;
 use std::io;
-use std::io::Read;
-
-// ---- the input
-
-// Fills a buffer from the input, or as much of it as the input has. Answers how many bytes that is.
-fn read_full(rt: &impl Input, buffer: &mut [u8]) -> io::Result<usize>
-    ensures { IfOk result (λ n. n ≤ length buffer.new) }
-{
-    let room = buffer.len();
-    let mut rest = &mut buffer[..];
-    io::copy(&mut rt.reader().take(room as u64), &mut rest)?;
-    let left = rest.len();
-    Ok(room.saturating_sub(left))
-}
 
 // ---- where things lie
 
@@ -98,11 +84,11 @@ fn of_value(v: Value) -> Outcome {
     of_word(constant::kind_of(v), constant::word_of(v))
 }
 
-fn of_figure(f: Figure) -> Outcome {
+fn of_figure(f: Option<Figure>) -> Outcome {
     match f {
-        Figure::Integer(x) => of_value(Value::Integer(x)),
-        Figure::Number(x) => of_value(Value::Number(x)),
-        Figure::None => unnamed(b'e', 0),
+        Some(Figure::Integer(x)) => of_value(Value::Integer(x)),
+        Some(Figure::Number(x)) => of_value(Value::Number(x)),
+        None => unnamed(b'e', 0),
     }
 }
 
@@ -131,16 +117,8 @@ fn of_effect(e: Effect) -> Outcome {
     match e {
         Effect::Set(dest, kind, word, go) => of_set(dest, kind, word, go),
         Effect::Goto(go) => of_go(go),
-        Effect::Clear(_, _) => none(),
-        Effect::Loop(_, _, _, _) => none(),
-        Effect::Enter(_, _) => none(),
-        Effect::Leave(_, _) => none(),
         Effect::Fail(n, operand) => failed(wide(n), operand),
-        Effect::Fault => none(),
-        Effect::Get(_, _) => none(),
-        Effect::Put(_, _) => none(),
-        Effect::Close(_, _) => none(),
-        Effect::Capture(_, _) => none(),
+        _ => none(),
     }
 }
 
@@ -156,7 +134,7 @@ fn by_zero(error: u64) -> u64 {
 // The result that stands at a place of a line, where the operator's own error has this number. Of 17 digits the last 16
 // count: those behind the tag.
 fn expected(line: &[u8], at: usize, error: u64) -> Outcome {
-    let tag = slices::byte_at(line, 0, at);
+    let tag = slices::get(line, 0, at);
     if (tag == b'i') | (tag == b'n') {
         return unnamed(tag, lists::number_at(line, at, 17));
     }
@@ -218,10 +196,10 @@ fn put_text(line: &[u8], const_words: &mut [u64], texts: &mut [u8], n: usize) ->
     let mut i: usize = 0;
     while i < count {
         let b = (lists::number_at(line, 1 + 2 * i, 2) % 256) as u8;
-        slices::put_byte(texts, n << 8, i, b);
+        slices::put(texts, n << 8, i, b);
         i += 1;
     }
-    slices::put_word(const_words, 0, n, ((n << 24) | count) as u64);
+    slices::put(const_words, 0, n, ((n << 24) | count) as u64);
     end
 }
 
@@ -245,20 +223,20 @@ fn put_operand(
     words: &mut [u64],
     i: usize,
 ) {
-    if slices::byte_at(line, 0, 0) == b's' {
+    if slices::get(line, 0, 0) == b's' {
         let n = std::num::wrapping_add_usize(FIRST, i);
         put_text(line, const_words, texts, n);
-        slices::put_byte(const_kinds, FIRST, i, 4);
-        slices::put_byte(kinds, BASE, i, 4);
-        slices::put_word(words, BASE, i, n as u64);
+        slices::put(const_kinds, FIRST, i, 4);
+        slices::put(kinds, BASE, i, 4);
+        slices::put(words, BASE, i, n as u64);
         return;
     }
-    let kind = slices::byte_at(line, 0, 1) % 16;
+    let kind = slices::get(line, 0, 1) % 16;
     let word = lists::number_at(line, 3, 16);
-    slices::put_byte(const_kinds, FIRST, i, kind);
-    slices::put_word(const_words, FIRST, i, word);
-    slices::put_byte(kinds, BASE, i, kind);
-    slices::put_word(words, BASE, i, word);
+    slices::put(const_kinds, FIRST, i, kind);
+    slices::put(const_words, FIRST, i, word);
+    slices::put(kinds, BASE, i, kind);
+    slices::put(words, BASE, i, word);
 }
 
 fn operand(i: usize, is_constant: bool) -> Operand {
@@ -485,7 +463,7 @@ fn play_line(
     words: &mut [u64],
     run: Run,
 ) -> io::Result<Run> {
-    let kind = slices::byte_at(line, 0, 0);
+    let kind = slices::get(line, 0, 0);
     if kind == b'f' {
         return Ok(run.with_part(read(line, const_words, texts, run.part)));
     }
@@ -558,7 +536,7 @@ fn play(
     let mut run = start();
     let mut turns = u64::MAX;
     while turns > 0 {
-        let n = read_full(rt, page)?;
+        let n = lists::read_full(rt, page)?;
         if n == 0 {
             return finish(rt, run.total);
         }
@@ -586,7 +564,7 @@ fn main(rt: HostRuntime) -> io::Result<()> {
     let mut texts = [0u8; 65536];
     let mut kinds = [0u8; 256];
     let mut words = [0u64; 256];
-    slices::put_word(
+    slices::put(
         &mut table,
         storage::ENTRIES_AT,
         storage::ENTRY * PROTOTYPE + storage::CONSTANT_AT,

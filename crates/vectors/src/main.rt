@@ -9,38 +9,25 @@
 
 ghost use Rattle.std.specs.Prelude.{◌≤◌, length, IfOk};
 
-use comparison::Compared;
-use constant::{Answer, BinaryOperatorError, Value};
+use constant::{OperatorError, Value};
 use std::io;
-use std::io::Read;
 
 // ---- the input
-
-// Fills a buffer from the input, or as much of it as the input has. Answers how many bytes that is.
-fn read_full(rt: &impl Input, buffer: &mut [u8]) -> io::Result<usize>
-    ensures { IfOk result (λ n. n ≤ length buffer.new) }
-{
-    let room = buffer.len();
-    let mut rest = &mut buffer[..];
-    io::copy(&mut rt.reader().take(room as u64), &mut rest)?;
-    let left = rest.len();
-    Ok(room.saturating_sub(left))
-}
 
 // The next byte, 0 where the input ends.
 fn next(rt: &impl Input, input: &mut [u8], at: &mut usize, end: &mut usize) -> io::Result<u8> {
     let i = *at;
     if i < *end {
         *at = i + 1;
-        return Ok(slices::byte_at(input, 0, i));
+        return Ok(slices::get(input, 0, i));
     }
-    let n = read_full(rt, input)?;
+    let n = lists::read_full(rt, input)?;
     *end = n;
     *at = 1;
     if n == 0 {
         return Ok(0);
     }
-    Ok(slices::byte_at(input, 0, 0))
+    Ok(slices::get(input, 0, 0))
 }
 
 fn wide(b: u8) -> u64 {
@@ -118,7 +105,7 @@ fn read_text(
     let mut i = 0;
     while i < count {
         let byte = hex(rt, input, at, end, 2)? % 256;
-        slices::put_byte(bytes, start, i, byte as u8);
+        slices::put(bytes, start, i, byte as u8);
         i += 1;
     }
     next(rt, input, at, end)?;
@@ -138,14 +125,14 @@ fn read_value(
 ) -> io::Result<usize> {
     if next(rt, input, at, end)? == b's' {
         let count = read_text(rt, input, at, end, bytes, start)?;
-        slices::put_byte(bytes, 0, i, 4);
-        slices::put_word(words, 0, i, (256 | i) as u64);
-        slices::put_word(words, 256, i, ((start << 16) | count) as u64);
+        slices::put(bytes, 0, i, 4);
+        slices::put(words, 0, i, (256 | i) as u64);
+        slices::put(words, 256, i, ((start << 16) | count) as u64);
         return Ok(std::num::wrapping_add_usize(start, count));
     }
-    slices::put_byte(bytes, 0, i, next(rt, input, at, end)? % 16);
+    slices::put(bytes, 0, i, next(rt, input, at, end)? % 16);
     next(rt, input, at, end)?;
-    slices::put_word(words, 0, i, field(rt, input, at, end, 16)?);
+    slices::put(words, 0, i, field(rt, input, at, end, 16)?);
     Ok(start)
 }
 
@@ -214,21 +201,21 @@ fn of_bool(b: bool) -> Outcome {
     unnamed(b'f', 0)
 }
 
-fn of_error(e: BinaryOperatorError, operand: u8) -> Outcome {
-    failed(wide(constant::error_number(e)), operand)
+fn of_error(e: OperatorError) -> Outcome {
+    failed(wide(constant::error_number(e.error)), e.operand)
 }
 
-fn of_answer(a: Answer) -> Outcome {
+fn of_answer(a: Result<Value, OperatorError>) -> Outcome {
     match a {
-        Answer::Is(v) => of_value(v),
-        Answer::Raises(e, operand) => of_error(e, operand),
+        Ok(v) => of_value(v),
+        Err(e) => of_error(e),
     }
 }
 
-fn of_compared(c: Compared) -> Outcome {
+fn of_compared(c: Result<bool, OperatorError>) -> Outcome {
     match c {
-        Compared::Decided(b) => of_bool(b),
-        Compared::Raises(e, operand) => of_error(e, operand),
+        Ok(b) => of_bool(b),
+        Err(e) => of_error(e),
     }
 }
 
@@ -258,7 +245,7 @@ fn evaluate(operation: u64, a: Value, b: Value, c: Value, bytes: &[u8], words: &
 }
 
 fn value_at(bytes: &[u8], words: &[u64], i: usize) -> Value {
-    constant::value_of(slices::byte_at(bytes, 0, i), slices::word_at(words, 0, i))
+    constant::value_of(slices::get(bytes, 0, i), slices::get(words, 0, i))
 }
 
 // What the machine answers at a place of an operator's results: every choice of operands, the last one changing first.

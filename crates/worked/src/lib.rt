@@ -6,25 +6,24 @@ ghost use Rattle.std.specs.Prelude.{◌≡◌, get_or};
 ghost use Rattle.worked.specs.Thirteen.{ran_on};
 ghost use Rattle.worked.specs.Worked.{answers};
 
-use constant::{Answer, Value};
-use number::Whole;
+use constant::{OperatorError, Value};
 use step::Outcome;
 
 // What an example tells: an operator's answer, the number that an integer becomes, whether two values are equal, the
 // integer that a number is, a run's answer, what a register holds.
-#[derive(Clone, Copy)]
+#[derive(Clone, Copy, Debug, PartialEq)]
 pub enum Told {
-    Operator(Answer),
+    Operator(Result<Value, OperatorError>),
     Number(f64),
     Equal(bool),
-    Integer(Whole),
+    Integer(Option<i64>),
     Run(Outcome),
     Register(Value),
     Nothing,
 }
 
 // What a run of W13's machine tells: its answer, and what registers 0 and 3 hold.
-#[derive(Clone, Copy)]
+#[derive(Clone, Copy, Debug, PartialEq)]
 pub struct Ran {
     pub answer: Outcome,
     pub first: Value,
@@ -40,7 +39,7 @@ fn run_thirteen(budget: u32) -> Ran
     let mut const_kinds = [0u8; storage::CONSTANTS];
     let mut const_words = [0u64; storage::CONSTANTS];
     let mut texts = [0u8; storage::TEXTS];
-    reader::read(
+    let _ = reader::read(
         b"a00400\nb0020000000000000001\nb0020000000000000003\nc00100000000\nc00100010001\nc00100020000\nc01200000000\nc0130000ffff\nc00c00000000\ne001\n",
         &mut table,
         &mut code,
@@ -51,7 +50,7 @@ fn run_thirteen(budget: u32) -> Ran
     let mut frames = [0u64; state::FRAMES];
     let mut kinds = [0u8; state::REGISTERS];
     let mut words = [0u64; state::REGISTERS];
-    starter::start(
+    let _ = starter::start(
         &table,
         &code,
         &const_kinds,
@@ -112,26 +111,10 @@ pub fn example(n: u64) -> Told
         9 => Told::Operator(constant::shift_left(Value::Integer(2), Value::Integer(-1))),
         10 => Told::Operator(constant::shift_right(Value::Integer(-1), Value::Integer(1))),
         11 => Told::Operator(constant::shift_left(Value::Integer(1), Value::Integer(64))),
-        12 => {
-            let r = run_thirteen(8);
-            let x = r.answer;
-            Told::Run(x)
-        }
-        13 => {
-            let r = run_thirteen(9);
-            let x = r.answer;
-            Told::Run(x)
-        }
-        14 => {
-            let r = run_thirteen(9);
-            let x = r.first;
-            Told::Register(x)
-        }
-        15 => {
-            let r = run_thirteen(9);
-            let x = r.fourth;
-            Told::Register(x)
-        }
+        12 => Told::Run(run_thirteen(8).answer),
+        13 => Told::Run(run_thirteen(9).answer),
+        14 => Told::Register(run_thirteen(9).first),
+        15 => Told::Register(run_thirteen(9).fourth),
         _ => Told::Nothing,
     }
 }

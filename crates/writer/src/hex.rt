@@ -20,8 +20,8 @@ pub(crate) fn put_hex(out: &mut [u8], at: usize, b: u8) -> usize
 {
     let high = digit_of(b / 16);
     let low = digit_of(b % 16);
-    slices::put_byte(out, at, 0, high);
-    slices::put_byte(out, at, 1, low);
+    slices::put(out, at, 0, high);
+    slices::put(out, at, 1, low);
     at + 2
 }
 

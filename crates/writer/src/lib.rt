@@ -12,13 +12,13 @@ ghost use Rattle.storage.specs.Stored.{const_frame, const_frames, code_frames, d
 ghost use Rattle.writer.specs.Writing.{Written, line_of, Lined};
 ghost use Rattle.writer.specs.Putting.{Room, Put, Slim, Narrow};
 
-use storage::Validity;
-
-// How many bytes were written, or the refusal's number.
-#[derive(Clone, Copy)]
-pub enum Wrote {
-    Bytes(usize),
-    Refused(u8),
+// Why nothing is written, with the documents' numbers.
+#[derive(Clone, Copy, Debug, PartialEq, Eq)]
+pub enum WriteRefusal {
+    // The lent slices are too short, or the output is shorter than the image.
+    TooShort = 5,
+    // No image reads to the storage.
+    NoImage = 6,
 }
 
 // ---- the storage's frames in their order, each put behind the one before; the place after the last is answered
@@ -36,8 +36,8 @@ fn put_constant(
     requires { Room out.old at (written (const_frame (storage [] [] const_kinds.now const_words.now texts.now) (first + i) ∷ [])) }
     ensures { Put out.old at (written (const_frame (storage [] [] const_kinds.now const_words.now texts.now) (first + i) ∷ [])) result out.new }
 {
-    let kind = slices::byte_at(const_kinds, first, i);
-    let w = slices::word_at(const_words, first, i);
+    let kind = slices::get(const_kinds, first, i);
+    let w = slices::get(const_words, first, i);
     if kind == 4 {
         return line::put_string(out, at, slices::text_at(texts, w));
     }
@@ -74,7 +74,7 @@ fn put_instructions(code: &[u64], first: usize, n: usize, out: &mut [u8], at: us
     let mut to = at;
     let mut i = 0;
     while i < n {
-        to = line::put_code(out, to, slices::word_at(code, first, i));
+        to = line::put_code(out, to, slices::get(code, first, i));
         i += 1;
     }
     to
@@ -146,6 +146,7 @@ fn put_image(
 
 // ---- the writer
 
+// How many bytes were written.
 pub fn write(
     table: &[u64],
     code: &[u64],
@@ -153,23 +154,20 @@ pub fn write(
     const_words: &[u64],
     texts: &[u8],
     out: &mut [u8],
-) -> Wrote
+) -> Result<usize, WriteRefusal>
     ensures { Written (storage_in table code const_kinds const_words texts) result out.old out.new }
 {
     if !storage::is_long_enough(table, code, const_kinds, const_words, texts) {
-        return Wrote::Refused(5);
+        return Err(WriteRefusal::TooShort);
     }
-    let v = storage::valid(table, code, const_kinds, const_words, texts);
-    match v {
-        Validity::Six => Wrote::Refused(6),
-        Validity::Bytes(n) => {
-            if out.len() < n {
-                return Wrote::Refused(5);
-            }
-            put_image(table, code, const_kinds, const_words, texts, out);
-            Wrote::Bytes(n)
-        }
+    let Some(n) = storage::valid(table, code, const_kinds, const_words, texts) else {
+        return Err(WriteRefusal::NoImage);
+    };
+    if out.len() < n {
+        return Err(WriteRefusal::TooShort);
     }
+    put_image(table, code, const_kinds, const_words, texts, out);
+    Ok(n)
 }
 
 // ---- one line

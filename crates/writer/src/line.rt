@@ -10,7 +10,7 @@ pub(crate) fn put_lf(out: &mut [u8], at: usize) -> usize
     requires { Room out.old at (10 ∷ []) }
     ensures { Put out.old at (10 ∷ []) result out.new }
 {
-    slices::put_byte(out, at, 0, 10);
+    slices::put(out, at, 0, 10);
     at + 1
 }
 

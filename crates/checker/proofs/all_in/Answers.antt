@@ -1,26 +1,7 @@
--- `checker::all_in` meets its contract: the descriptors below i are in range. Assumes nothing.
-use Rattle.std.proofs.lemmas.Bool.{not_from_false, not_from_true}
-use native.Mathlib.Omega.{arith}
-use Rattle.choices.proofs.Choices.{denied, granted}
-use Rattle.choices.proofs.Below.{all_none, all_more, all-fails, all_end}
+-- `checker::all_in` meets its contract: each descriptor below n is asked about. Assumes nothing.
+use Rattle.std.proofs.Common.{rules, refl}
+use Rattle.choices.proofs.Below.{below_from_all}
 use Rattle.checker.proofs.all_in.Goals as goal
 
-pub loop-i-init : goal.loop-i-init
-loop-i-init c = (omega arith, all_none _)
-
-pub returns-then-not-descriptor_in : goal.returns-then-not-descriptor_in
-returns-then-not-descriptor_in c =
-    all-fails _ _ _ c.loop-i-test.true (denied _ _ (rw c.descriptor.ensures at c.descriptor_in.ensures) (not_from_false _ c.if-not-descriptor_in.true))
-
-pub overflow_add-i : goal.overflow_add-i
-overflow_add-i c = omega arith
-
-pub loop-i-smaller : goal.loop-i-smaller
-loop-i-smaller c = omega arith
-
-pub loop-i-preserved : goal.loop-i-preserved
-loop-i-preserved c =
-    (omega arith, all_more _ _ c.loop-i.invariant.1 (granted _ _ (rw c.descriptor.ensures at c.descriptor_in.ensures) (not_from_true _ c.if-not-descriptor_in.false)))
-
 pub returns : goal.returns
-returns c = all_end _ _ _ c.loop-i.invariant.0 c.loop-i-test.false c.loop-i.invariant.1
+returns c = below_from_all _ _ _ _ _ c.all.ensures.ran refl (λ i b q k. search rules)

@@ -1,14 +1,14 @@
 -- `checker::past_code` meets its contract: the first instruction past the end breaks a rule, or the last does. Assumes nothing.
-use mathlib.Core.Path.{sym, ◌∙◌}
-use Rattle.checker.proofs.Turns.{number, code-bad}
+use Rattle.std.proofs.lemmas.Result.{err_from_is_err_and}
+use Rattle.checker.proofs.Turns.{turn-bad, said-kept}
 use Rattle.checker.proofs.Past.{past-last}
 use Rattle.checker.proofs.past_code.Goals as goal
 
-pub returns-then-n-ne0 : goal.returns-then-n-ne0
-returns-then-n-ne0 c =
-    λ rest. code-bad _ _ _ _ _ _ _ (number _ _ _ _ _ _ c.site_of.ensures c.broken-n.ensures) c.requires.i_bound c.if-n-ne0.true
+pub returns-in_err-check_at : goal.returns-in_err-check_at
+returns-in_err-check_at c =
+    let p = err_from_is_err_and c.from_residual.result c.from_residual.ensures.1 in
+    λ rest. rw (p.1, p.2) (turn-bad _ _ _ _ _ _ _ c.check_at.ensures c.requires.i_bound _ c.in_err-check_at.was)
 
 pub returns : goal.returns
 returns c =
-    λ rest. past-last _ _ _ _ c.requires.code_len_bound (sym (number _ _ _ _ _ _ c.site_of.ensures c.broken-n.ensures) ∙ c.if-n-ne0.false) _ _
-    c.instructions-instructions.ensures
+    λ rest. rw c.at.ensures (past-last _ _ _ _ c.requires.code_len_bound (said-kept _ _ _ _ _ c.check_at.ensures _ c.in_ok-check_at.was) rest _ c.instructions.ensures)

@@ -1,98 +1,32 @@
--- `figures::ten` meets its contract: each arm's number, computed; the last arm's is 22. Assumes nothing.
-use Rattle.std.proofs.Common.{◌≡◌, refl, arith}
-use lib.Ieee.{of_bits}
+-- `figures::ten` meets its contract: each number of the table, computed. Assumes nothing.
+use Rattle.std.proofs.Common.{◌≡◌, ℕ, zero, suc, ◌+◌, ◌*◌, ◌^◌, ◌<◌, Bool, true, false, ◌&&◌, eqb, List, [], ◌∷◌, length, get_or, refl, eqb-true, arith}
+use lib.Ieee.{Float, nan, inf, fin, up, down, of_bits}
+use lib.Ieee.Exact.{HasValue}
+use Rattle.choices.proofs.Choices.{and_left, and_right}
+use Rattle.figures.specs.declared.TheConstants.{TENS}
 use Rattle.figures.proofs.ten.Goals as goal
 
-pub returns-in-0 : goal.returns-in-0
-unfolding of_bits
-returns-in-0 c = rw c.in-0.is (refl, refl)
+-- whether x is 10 ^ k
+abbrev is_ten : Float → ℕ → Bool
+is_ten (fin false m e) k = eqb (m * up e * 1) (10 ^ k * down e)
+is_ten _ k = false
 
-pub returns-in-1 : goal.returns-in-1
-unfolding of_bits
-returns-in-1 c = rw c.in-1.is (refl, refl)
+-- whether the numbers of a list are the powers of ten from 10 ^ k on
+abbrev are_tens : List Float → ℕ → Bool
+are_tens [] k = true
+are_tens (x ∷ xs) k = is_ten x k && are_tens xs (suc k)
 
-pub returns-in-2 : goal.returns-in-2
-unfolding of_bits
-returns-in-2 c = rw c.in-2.is (refl, refl)
+one-ten : (x : Float) (k : ℕ) → is_ten x k ≡ true → HasValue x false (10 ^ k) 1
+one-ten (fin false m e) k h = (refl, eqb-true (m * up e * 1) (10 ^ k * down e) h)
+one-ten (fin true m e) k h = absurd (cc)
+one-ten (inf s) k h = absurd (cc)
+one-ten nan k h = absurd (cc)
 
-pub returns-in-3 : goal.returns-in-3
-unfolding of_bits
-returns-in-3 c = rw c.in-3.is (refl, refl)
+tens-at : (xs : List Float) (k i : ℕ) → are_tens xs k ≡ true → i < length xs → HasValue (get_or xs i nan) false (10 ^ (k + i)) 1
+tens-at [] k i h n = absurd (omega arith)
+tens-at (x ∷ xs) k zero h n = let e : k + 0 ≡ k = omega arith in rw e (one-ten x k (and_left (is_ten x k) (are_tens xs (suc k)) h))
+tens-at (x ∷ xs) k (suc i) h n = let e : k + suc i ≡ suc k + i = omega arith in rw e (tens-at xs (suc k) i (and_right (is_ten x k) (are_tens xs (suc k)) h) (omega arith))
 
-pub returns-in-4 : goal.returns-in-4
+pub returns : goal.returns
 unfolding of_bits
-returns-in-4 c = rw c.in-4.is (refl, refl)
-
-pub returns-in-5 : goal.returns-in-5
-unfolding of_bits
-returns-in-5 c = rw c.in-5.is (refl, refl)
-
-pub returns-in-6 : goal.returns-in-6
-unfolding of_bits
-returns-in-6 c = rw c.in-6.is (refl, refl)
-
-pub returns-in-7 : goal.returns-in-7
-unfolding of_bits
-returns-in-7 c = rw c.in-7.is (refl, refl)
-
-pub returns-in-8 : goal.returns-in-8
-unfolding of_bits
-returns-in-8 c = rw c.in-8.is (refl, refl)
-
-pub returns-in-9 : goal.returns-in-9
-unfolding of_bits
-returns-in-9 c = rw c.in-9.is (refl, refl)
-
-pub returns-in-10 : goal.returns-in-10
-unfolding of_bits
-returns-in-10 c = rw c.in-10.is (refl, refl)
-
-pub returns-in-11 : goal.returns-in-11
-unfolding of_bits
-returns-in-11 c = rw c.in-11.is (refl, refl)
-
-pub returns-in-12 : goal.returns-in-12
-unfolding of_bits
-returns-in-12 c = rw c.in-12.is (refl, refl)
-
-pub returns-in-13 : goal.returns-in-13
-unfolding of_bits
-returns-in-13 c = rw c.in-13.is (refl, refl)
-
-pub returns-in-14 : goal.returns-in-14
-unfolding of_bits
-returns-in-14 c = rw c.in-14.is (refl, refl)
-
-pub returns-in-15 : goal.returns-in-15
-unfolding of_bits
-returns-in-15 c = rw c.in-15.is (refl, refl)
-
-pub returns-in-16 : goal.returns-in-16
-unfolding of_bits
-returns-in-16 c = rw c.in-16.is (refl, refl)
-
-pub returns-in-17 : goal.returns-in-17
-unfolding of_bits
-returns-in-17 c = rw c.in-17.is (refl, refl)
-
-pub returns-in-18 : goal.returns-in-18
-unfolding of_bits
-returns-in-18 c = rw c.in-18.is (refl, refl)
-
-pub returns-in-19 : goal.returns-in-19
-unfolding of_bits
-returns-in-19 c = rw c.in-19.is (refl, refl)
-
-pub returns-in-20 : goal.returns-in-20
-unfolding of_bits
-returns-in-20 c = rw c.in-20.is (refl, refl)
-
-pub returns-in-21 : goal.returns-in-21
-unfolding of_bits
-returns-in-21 c = rw c.in-21.is (refl, refl)
-
-pub returns-in_default : goal.returns-in_default
-unfolding of_bits
-returns-in_default c =
-    let e : c.args.k ≡ 22 = omega arith in
-    rw e (refl, refl)
+returns c = let e : 0 + c.args.k ≡ c.args.k = omega arith in rw e at (tens-at TENS 0 c.args.k refl (omega arith))

@@ -1,15 +1,14 @@
--- `fitness::entry_fits` meets its contract: a free entry, one whose prototype is not there, and the upvalues of one that is. Assumes nothing.
-use Rattle.fitness.proofs.Parts.{entry_free, entry-away, entry-rest}
+-- `fitness::entry_fits` meets its contract: the upvalues of an entry in use whose prototype is there. Assumes nothing.
+use Rattle.std.proofs.Common.{arith, refl, rules}
+use Rattle.std.proofs.lemmas.Grind.{common_steps}
+use Rattle.choices.proofs.Below.{below_from_all}
+use Rattle.fitness.specs.Fit.{upvalue_fits, entry_fits}
 use Rattle.fitness.proofs.entry_fits.Goals as goal
 
-pub returns-then-x-lt1 : goal.returns-then-x-lt1
-returns-then-x-lt1 c = entry_free _ _ _ _ c.entry-x.ensures c.if-x-lt1.true
-
-pub returns-then-prototypes-x : goal.returns-then-prototypes-x
-returns-then-prototypes-x c =
-    entry-away _ _ _ _ c.entry-x.ensures c.if-x-lt1.false _ c.prototypes.ensures c.if-prototypes-x.true
-
-pub returns : goal.returns
-returns c =
-    entry-rest _ _ _ _ c.entry-x.ensures c.if-x-lt1.false _ c.prototypes.ensures c.if-prototypes-x.false _
-    c.descriptors.ensures _ c.all_upvalues_fit.ensures
+pub returns-then-x-prototypes : goal.returns-then-x-prototypes
+unfolding entry_fits
+returns-then-x-prototypes c =
+    let a = c.args in
+    let t = upvalue_fits a.frames.now a.e c.descriptors-n.result in
+    let e = below_from_all t _ _ _ _ c.all.ensures.ran refl (λ j b q k. search rules) in
+    grind (arith, common_steps, e)

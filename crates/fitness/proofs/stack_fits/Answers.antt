@@ -1,26 +1,31 @@
--- `fitness::stack_fits` meets its contract: each return is the definition's test that fails, or the last one. Assumes nothing.
-use Rattle.fitness.proofs.Facts.{stack_none, stack_deep, stack_far, stack_away, stack_rest}
-use Rattle.choices.proofs.Choices.{denied, granted}
-use Rattle.std.proofs.lemmas.Bool.{not_from_false, not_from_true}
+-- `fitness::stack_fits` meets its contract: each activation is there, and all but the innermost wait. Assumes nothing.
+use Rattle.std.proofs.Common.{arith, refl, rules}
+use Rattle.std.proofs.lemmas.Grind.{common_steps}
+use Rattle.choices.proofs.Below.{below_from_all}
+use Rattle.state.specs.Frames.{base_of}
+use Rattle.state.proofs.Stacks.{clip_test}
+use Rattle.fitness.specs.Fit.{there_in, waits_in, stack_fits}
 use Rattle.fitness.proofs.stack_fits.Goals as goal
 
-pub returns-then-depth-lt1 : goal.returns-then-depth-lt1
-returns-then-depth-lt1 c = stack_none _ _ _ _ c.depth-depth.ensures c.if-depth-lt1.true
+pub returns-then-not-matches : goal.returns-then-not-matches
+unfolding stack_fits
+returns-then-not-matches c =
+    let a = c.args in
+    let k = clip_test (base_of a.table.now a.frames.now c.depth-depth.result) in
+    grind (arith, common_steps, k)
 
-pub returns-then-depth-gt16 : goal.returns-then-depth-gt16
-returns-then-depth-gt16 c = stack_deep _ _ _ _ c.depth-depth.ensures c.if-depth-gt16.true
+pub returns-then-all : goal.returns-then-all
+unfolding stack_fits
+returns-then-all c =
+    let a = c.args in
+    let k = clip_test (base_of a.table.now a.frames.now c.depth-depth.result) in
+    let e = below_from_all (there_in a.table.now a.frames.now) _ _ _ _ c.all.ensures.ran refl (λ i b q k. search rules) in
+    let w = below_from_all (waits_in a.table.now a.code.now a.frames.now) _ _ _ _ c.all-then-all.ensures.ran refl (λ i b q k. search rules) in
+    grind (arith, common_steps, k, e, w)
 
-pub returns-then-base_of-gt2048 : goal.returns-then-base_of-gt2048
-returns-then-base_of-gt2048 c =
-    stack_far _ _ _ _ c.depth-depth.ensures _ c.base_of.ensures c.if-base_of-gt2048.true
-
-pub returns-then-not-all_there : goal.returns-then-not-all_there
-returns-then-not-all_there c =
-    stack_away _ _ _ _ c.depth-depth.ensures
-    (denied _ _ c.all_there.ensures (not_from_false _ c.if-not-all_there.true))
-
-pub returns : goal.returns
-returns c =
-    stack_rest _ _ _ _ c.depth-depth.ensures c.if-depth-lt1.false c.if-depth-gt16.false _
-    c.base_of.ensures c.if-base_of-gt2048.false (granted _ _ c.all_there.ensures (not_from_true _ c.if-not-all_there.false)) _
-    c.all_wait.ensures
+pub returns-else-all : goal.returns-else-all
+unfolding stack_fits
+returns-else-all c =
+    let a = c.args in
+    let e = below_from_all (there_in a.table.now a.frames.now) _ _ _ _ c.all.ensures.ran refl (λ i b q k. search rules) in
+    grind (arith, common_steps, e)

@@ -2,4 +2,4 @@
 use Rattle.storage.proofs.constant_kind.Goals as goal
 
 pub returns : goal.returns
-returns c = rw (← c.first_constant-first.ensures) c.byte_at.ensures
+returns c = rw (← c.first_constant-first.ensures) c.get.ensures

@@ -17,12 +17,12 @@ within l i e = elim (dec_le (length l) i) [ yes h ↦ absurd (omega (arith, past
 pub overflow_add-result : goal.overflow_add-result
 overflow_add-result c =
     let a = c.args in
-    omega (arith, within a.const_kinds.now (c.first_constant-first.result + a.c) (sym c.byte_at-kind.ensures ∙ c.if-kind-eq4.true))
+    omega (arith, within a.const_kinds.now (c.first_constant-first.result + a.c) (sym c.get-kind.ensures ∙ c.if-kind-eq4.true))
 
 pub returns-then-kind-eq4 : goal.returns-then-kind-eq4
-returns-then-kind-eq4 c = rw (← c.first_constant-first.ensures, ← c.byte_at-kind.ensures) (simp (eq-eqb _ _ c.if-kind-eq4.true))
+returns-then-kind-eq4 c = rw (← c.first_constant-first.ensures, ← c.get-kind.ensures) (simp (eq-eqb _ _ c.if-kind-eq4.true))
 
 pub returns : goal.returns
 returns c =
-    rw (← c.first_constant-first.ensures, ← c.byte_at-kind.ensures)
-    (simp (ne_eqb _ _ c.if-kind-eq4.false) c.word_at.ensures)
+    rw (← c.first_constant-first.ensures, ← c.get-kind.ensures)
+    (simp (ne_eqb _ _ c.if-kind-eq4.false) c.get.ensures)

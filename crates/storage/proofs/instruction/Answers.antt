@@ -2,4 +2,4 @@
 use Rattle.storage.proofs.instruction.Goals as goal
 
 pub returns : goal.returns
-returns c = rw (← c.first_instruction-first.ensures) c.word_at.ensures
+returns c = rw (← c.first_instruction-first.ensures) c.get.ensures

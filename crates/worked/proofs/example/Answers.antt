@@ -53,16 +53,16 @@ pub returns-in-11 : goal.returns-in-11
 returns-in-11 c = rw c.in-11.is (ap Operator c.shift_left-in-11.ensures ∙ at 11)
 
 pub returns-in-12 : goal.returns-in-12
-returns-in-12 c = rw c.in-12.is (ap (λ (r : Ran). Run r.answer) c.run_thirteen-r.ensures ∙ at 12)
+returns-in-12 c = rw c.in-12.is (ap (λ (r : Ran). Run r.answer) c.run_thirteen.ensures ∙ at 12)
 
 pub returns-in-13 : goal.returns-in-13
-returns-in-13 c = rw c.in-13.is (ap (λ (r : Ran). Run r.answer) c.run_thirteen-r-in-13.ensures ∙ at 13)
+returns-in-13 c = rw c.in-13.is (ap (λ (r : Ran). Run r.answer) c.run_thirteen-in-13.ensures ∙ at 13)
 
 pub returns-in-14 : goal.returns-in-14
-returns-in-14 c = rw c.in-14.is (ap (λ (r : Ran). Register r.first) c.run_thirteen-r-in-14.ensures ∙ at 14)
+returns-in-14 c = rw c.in-14.is (ap (λ (r : Ran). Register r.first) c.run_thirteen-in-14.ensures ∙ at 14)
 
 pub returns-in-15 : goal.returns-in-15
-returns-in-15 c = rw c.in-15.is (ap (λ (r : Ran). Register r.fourth) c.run_thirteen-r-in-15.ensures ∙ at 15)
+returns-in-15 c = rw c.in-15.is (ap (λ (r : Ran). Register r.fourth) c.run_thirteen-in-15.ensures ∙ at 15)
 
 pub returns-in_default : goal.returns-in_default
 returns-in_default c = let all : 16 ≤ c.args.n = omega arith in sym (get_or-eq_default answers Nothing all)

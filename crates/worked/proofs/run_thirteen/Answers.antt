@@ -3,13 +3,13 @@ use mathlib.Core.Path.{◌≡◌, ap, ◌∙◌}
 use mathlib.Core.List.{List, []}
 use Prim.Native.Nat.{ℕ}
 use Rattle.image.specs.Frames.{frames_of}
-use Rattle.image.specs.declared.Judged.{Judged}
+use Rattle.image.specs.Judge.{Judged}
 use Rattle.image.specs.Frames as frames
 use Rattle.image.specs.Write as write
 use Rattle.storage.specs.Layout.{Storage, blank_storage}
 use Rattle.reader.specs.Reading.{Read, read_of, left_of}
 use Rattle.constant.specs.declared.Value.{Value}
-use Rattle.checker.specs.declared.Checked.{Checked}
+use Rattle.checker.specs.Check.{Checked}
 use Rattle.state.specs.States.{State, blank_state}
 use Rattle.starter.specs.Start.{Started, started, start_of}
 use Rattle.step.specs.Run.{ended, run_of}

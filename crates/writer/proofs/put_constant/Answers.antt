@@ -7,7 +7,7 @@ pub put_string-requires : goal.put_string-requires
 put_string-requires c =
     let a = c.args in
     rw
-    (string_frame a.const_kinds.now a.const_words.now a.texts.now (a.first + a.i) _ _ c.byte_at-kind.ensures c.word_at-w.ensures _
+    (string_frame a.const_kinds.now a.const_words.now a.texts.now (a.first + a.i) _ _ c.get-kind.ensures c.get-w.ensures _
     c.text_at.ensures c.if-kind-eq4.true)
     at c.requires
 
@@ -15,7 +15,7 @@ pub returns-then-kind-eq4 : goal.returns-then-kind-eq4
 returns-then-kind-eq4 c =
     let a = c.args in
     rw
-    (string_frame a.const_kinds.now a.const_words.now a.texts.now (a.first + a.i) _ _ c.byte_at-kind.ensures c.word_at-w.ensures _
+    (string_frame a.const_kinds.now a.const_words.now a.texts.now (a.first + a.i) _ _ c.get-kind.ensures c.get-w.ensures _
     c.text_at.ensures c.if-kind-eq4.true)
     c.put_string.ensures
 
@@ -23,7 +23,7 @@ pub put_const-requires : goal.put_const-requires
 put_const-requires c =
     let a = c.args in
     rw
-    (word-frame a.const_kinds.now a.const_words.now a.texts.now (a.first + a.i) _ _ c.byte_at-kind.ensures c.word_at-w.ensures
+    (word-frame a.const_kinds.now a.const_words.now a.texts.now (a.first + a.i) _ _ c.get-kind.ensures c.get-w.ensures
     c.if-kind-eq4.false)
     at c.requires
 
@@ -31,6 +31,6 @@ pub returns : goal.returns
 returns c =
     let a = c.args in
     rw
-    (word-frame a.const_kinds.now a.const_words.now a.texts.now (a.first + a.i) _ _ c.byte_at-kind.ensures c.word_at-w.ensures
+    (word-frame a.const_kinds.now a.const_words.now a.texts.now (a.first + a.i) _ _ c.get-kind.ensures c.get-w.ensures
     c.if-kind-eq4.false)
     c.put_const.ensures

@@ -21,7 +21,7 @@ pub put_code-to-requires : goal.put_code-to-requires
 put_code-to-requires c =
     let s = (goal.at.put_code-to-requires c).Start in
     let o = c.loop-i in
-    rw c.word_at.ensures
+    rw c.get.ensures
     (left-room o.invariant c.requires
     (each_turn (codes-each (lent s)) c.args.n c.args.first o.i c.loop-i-test.true))
 
@@ -36,7 +36,7 @@ loop-i-preserved c =
     let s = (goal.at.loop-i-preserved c).Start in
     let o = c.loop-i in
     left-more o.invariant (each_turn (codes-each (lent s)) c.args.n c.args.first o.i c.loop-i-test.true)
-    (rw c.word_at.ensures at c.put_code-to.ensures)
+    (rw c.get.ensures at c.put_code-to.ensures)
 
 pub shape_of-out : goal.shape_of-out
 shape_of-out c = c.loop-i.invariant.same

@@ -7,14 +7,14 @@ use Rattle.deletion.proofs.Puts.{put_as}
 use Rattle.deletion.proofs.Outputs.{answer-put, read-refused, read-stored, whole}
 use Rattle.deletion.proofs.output.output_given.Goals as goal
 
-pub returns-in-Refused : goal.returns-in-Refused
-returns-in-Refused c =
+pub returns-in-Err : goal.returns-in-Err
+returns-in-Err c =
     let long : output_size ≤ length c.args.out.now = omega (arith, c.fits-out) in
     whole long
-    (put_as (read-refused _ _ _ _ c.read-j.ensures _ _ c.in-Refused.is _ c.read_answer.ensures)
-    (answer-put _ long c.answer_line-size.ensures))
+    (put_as (read-refused _ _ _ _ c.read-j.ensures _ c.in-Err.is _ c.read_answer.ensures)
+    (answer-put _ long c.answer_line.ensures))
 
-pub returns : goal.returns
-returns c =
+pub returns-in-Ok : goal.returns-in-Ok
+returns-in-Ok c =
     let long : output_size ≤ length c.args.out.now = omega (arith, c.fits-out) in
-    whole long (put_as (read-stored _ _ _ _ c.read-j.ensures _ c.in_default.is) c.put_stored.ensures)
+    whole long (put_as (read-stored _ _ _ _ c.read-j.ensures _ c.in-Ok.is) c.put_stored.ensures)

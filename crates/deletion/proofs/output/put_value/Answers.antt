@@ -13,13 +13,13 @@ use Rattle.deletion.proofs.output.put_value.Goals.{After-value_line-n}
 -- what was put, from where the line was put
 module _ (c : After-value_line-n) where
   abbrev bytes : List ℕ
-  bytes = value_bytes c.byte_at-kind.result c.word_at-word.result c.text_of-text.result.now c.previous-q.result
+  bytes = value_bytes c.get-kind.result c.get-word.result c.text_of-text.result.now c.previous-q.result
 
   told :
       line_of bytes
       ≡ value_line c.args.const_words.now c.args.texts.now c.args.frames.now c.args.kinds.now c.args.words.now (c.args.first + c.args.i)
   told =
-      value-told _ _ _ _ _ _ _ _ _ _ _ c.byte_at-kind.ensures c.word_at-word.ensures c.text_of-text.ensures c.entry.ensures
+      value-told _ _ _ _ _ _ _ _ _ _ _ c.get-kind.ensures c.get-word.ensures c.text_of-text.ensures c.entry.ensures
       c.previous-q.ensures
 
   room : Room c.args.out.now c.args.at (line_of bytes)

@@ -13,7 +13,7 @@ pub frame_at-line-requires : goal.frame_at-line-requires
 frame_at-line-requires c = c.loop-at-test.true
 
 pub shape_of-table-then-s-e : goal.shape_of-table-then-s-e
-shape_of-table-then-s-e c = c.loop-at.invariant.1.table.same ∙ c.put_word.auto.s
+shape_of-table-then-s-e c = c.loop-at.invariant.1.table.same ∙ c.put.auto.s
 
 pub shape_of-code-then-s-e : goal.shape_of-code-then-s-e
 shape_of-code-then-s-e c = c.loop-at.invariant.1.code.same
@@ -33,7 +33,7 @@ returns-then-s-e c =
     let o = c.loop-at in
     let h : length l ≤ o.at + line_len (drop o.at l) = omega (arith, c.frame_at-line.ensures.text, c.if-s-e.true) in
     let v = rw (frames_uncut l o.at h c.loop-at-test.true, frames_none l (length l) (omega arith)) at o.invariant.1 in
-    left_end _ _ _ _ _ _ _ _ _ _ _ _ _ _ c.put_word.ensures (left-bad _ _ _ _ _ _ _ _ _ _ _ _ _ v)
+    left_end _ _ _ _ _ _ _ _ _ _ _ _ _ _ c.put.ensures (left-bad _ _ _ _ _ _ _ _ _ _ _ _ _ v)
 
 pub slice_bounds-put_frame-count : goal.slice_bounds-put_frame-count
 slice_bounds-put_frame-count c = omega (arith, c.frame_at-line.ensures.text)
@@ -66,7 +66,7 @@ loop-at-preserved c =
     (n.ensures.within, left-turn _ _ _ _ _ _ _ _ _ _ _ _ _ _ _ _ _ _ _ _ _ g.requires v c.put_frame-t.ensures)
 
 pub shape_of-table : goal.shape_of-table
-shape_of-table c = c.loop-at.invariant.1.table.same ∙ c.put_word.auto.s
+shape_of-table c = c.loop-at.invariant.1.table.same ∙ c.put.auto.s
 
 pub shape_of-code : goal.shape_of-code
 shape_of-code c = c.loop-at.invariant.1.code.same
@@ -84,4 +84,4 @@ pub returns : goal.returns
 returns c =
     let o = c.loop-at in
     let v = rw (frames_none c.args.s.now o.at c.loop-at-test.false) at o.invariant.1 in
-    left_end _ _ _ _ _ _ _ _ _ _ _ _ _ _ c.put_word.ensures v
+    left_end _ _ _ _ _ _ _ _ _ _ _ _ _ _ c.put.ensures v

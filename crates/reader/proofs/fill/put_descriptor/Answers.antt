@@ -5,4 +5,4 @@ use Rattle.reader.proofs.fill.put_descriptor.Goals as goal
 pub returns : goal.returns
 returns c =
     let a = c.args in
-    sets-descriptor a.table.now _ _ a.q a.d _ c.put_word.ensures c.put_word-2.ensures
+    sets-descriptor a.table.now _ _ a.q a.d _ c.put.ensures c.put-2.ensures

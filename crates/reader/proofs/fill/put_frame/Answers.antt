@@ -32,20 +32,20 @@ returns-in-Open c =
 pub returns-in-Const : goal.returns-in-Const
 returns-in-Const c =
     let a = c.args in
-    rw (c.put_word.ensures, c.put_byte.ensures, from-shape (frame_of a.line.now) _ (sym c.requires.f_value ∙ c.in-Const.is))
+    rw (c.put.ensures, c.put-in-Const.ensures, from-shape (frame_of a.line.now) _ (sym c.requires.f_value ∙ c.in-Const.is))
     (put_const a.t a.table.now a.code.now a.const_kinds.now a.const_words.now a.texts.now _ _)
 
 pub returns-in-Str : goal.returns-in-Str
 returns-in-Str c =
     let a = c.args in
     let h = str-line _ _ (sym c.requires.f_value ∙ c.in-Str.is) in
-    rw (h.frame, c.put_byte-in-Str.ensures, c.put_word-in-Str.ensures, c.put_text.ensures, h.bytes)
+    rw (h.frame, c.put-in-Str.ensures, c.put-in-Str-2.ensures, c.put_text.ensures, h.bytes)
     (put-str a.t a.table.now a.code.now a.const_kinds.now a.const_words.now a.texts.now h.text _ h.count)
 
 pub returns-in-Code : goal.returns-in-Code
 returns-in-Code c =
     let a = c.args in
-    rw (c.put_word-in-Code.ensures, from-shape (frame_of a.line.now) _ (sym c.requires.f_value ∙ c.in-Code.is))
+    rw (c.put-in-Code.ensures, from-shape (frame_of a.line.now) _ (sym c.requires.f_value ∙ c.in-Code.is))
     (put-code a.t a.table.now a.code.now a.const_kinds.now a.const_words.now a.texts.now _)
 
 pub returns-in-End : goal.returns-in-End

@@ -28,7 +28,7 @@ loop-i-preserved c =
     let o = c.loop-i in
     let B = bytes_of a.line.now in
     let k : 2 + o.i < length B = omega (arith, bytes-length a.line.now c.requires.0) in
-    (omega arith, omega arith, rw (c.put_byte.ensures, c.byte_at-b.ensures) (sym (copy-turn o.texts B a.top a.n o.i c.loop-i-test.true k) ∙ o.invariant.2))
+    (omega arith, omega arith, rw (c.put.ensures, c.byte_at-b.ensures) (sym (copy-turn o.texts B a.top a.n o.i c.loop-i-test.true k) ∙ o.invariant.2))
 
 pub shape_of-texts : goal.shape_of-texts
 shape_of-texts c = omega arith

@@ -6,5 +6,5 @@ pub returns : goal.returns
 returns c =
     let a = c.args in
     one_byte a.out.now _ _ a.at a.b _ _ c.digit_of-high.ensures c.digit_of-low.ensures
-    c.put_byte.ensures
-    c.put_byte-2.ensures
+    c.put.ensures
+    c.put-2.ensures

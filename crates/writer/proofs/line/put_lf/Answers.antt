@@ -5,4 +5,4 @@ use Rattle.writer.proofs.line.put_lf.Goals as goal
 pub returns : goal.returns
 returns c =
     let a = c.args in
-    lf a.out.now _ a.at c.put_byte.ensures
+    lf a.out.now _ a.at c.put.ensures

@@ -1,2 +1,0 @@
--- Laws of the loops over a line.
-pub mod Loops

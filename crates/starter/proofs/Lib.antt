@@ -1,2 +1,0 @@
--- The laws behind a start.
-pub mod Starts
