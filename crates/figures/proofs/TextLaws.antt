@@ -142,8 +142,6 @@ pub ruleset fronts = (first-is, second-is, rest-is, rest-twice, nat_tests)
 
 pub ruleset blank_terms = (blanks-none, nat_tests)
 
-pub ruleset digit_terms = (digit-is, nat_tests)
-
 pub ruleset digit_steps = (digits-next, digits-stop, digits-end, shorter)
 
 pub ruleset hex_steps = (digit_steps, hex-value-next, hex-value-end)

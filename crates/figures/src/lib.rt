@@ -173,13 +173,18 @@ fn sign(s: &[u8]) -> (bool, &[u8])
 // ---- digits
 
 // What a byte stands for as a digit of base 10 or 16.
-#[tactic(auto, using(crate::proofs::TextLaws::digit_terms))]
-fn digit(b: u8, base: u32) -> Option<u64>
-    requires low { 2 ≤ base }
-    requires high { base ≤ 16 }
+#[tactic(auto, unfolding(crate::specs::Texts::digit))]
+fn digit(b: u8, base: u64) -> Option<u64>
     ensures { result ≡ digit_in base b }
 {
-    char::from(b).to_digit(base).map(u64::from)
+    let value = match b {
+        b'0'..=b'9' => b - b'0',
+        b'a'..=b'f' => b - b'a' + 10,
+        b'A'..=b'F' => b - b'A' + 10,
+        _ => 16,
+    };
+    let value = u64::from(value);
+    if value < base { Some(value) } else { None }
 }
 
 // The digits so far: their value and the value up to the last that is not 0, both at most 2^63 + 1; how many zeros
@@ -293,7 +298,7 @@ fn signed_integer(negative: bool, v: u64) -> i64
     v.cast_signed()
 }
 
-// Whether it is in range. `checked_sub_unsigned`, which would say so with the integer, is not in this std.
+// Whether it is in range. `signed_integer` is asked where it is, and the definition has the two apart.
 fn fits_integer(negative: bool, v: u64) -> bool
     ensures { result ≡ Figures.fits_integer negative v }
 {

@@ -8,16 +8,17 @@ use Rattle.image.specs.declared.Counts.{Counts}
 use Rattle.image.specs.declared.Step.{Step}
 use Rattle.image.specs.declared.Step.TheVariants.{On, Done, No}
 use Rattle.image.specs.declared.ReadError.{ReadError}
-use Rattle.image.specs.declared.ReadError.TheVariants.{BrokenLine, BadFrame, PastLimit, WrongEnd, ShortStorage}
+use Rattle.image.specs.declared.ReadError.TheVariants.{BrokenLine, BadFrame, PastLimit, WrongEnd, ShortStorage, Other}
 use Rattle.image.specs.declared.ReadRefusal.{ReadRefusal}
 
--- what an image is refused for: 1 a line, 2 a frame, 3 a limit, 4 the end, 5 the storage
+-- what an image is refused for: 1 a line, 2 a frame, 3 a limit, 4 the end, 5 the storage; a number that is none of these stands for itself
 abbrev pub read_number : ReadError → ℕ
 read_number BrokenLine = 1
 read_number BadFrame = 2
 read_number PastLimit = 3
 read_number WrongEnd = 4
 read_number ShortStorage = 5
+read_number (Other n) = n
 
 -- an image is accepted with its number of prototypes, or refused
 abbrev pub Judged : Type 0

@@ -4,22 +4,41 @@
 
 ghost use Rattle.std.specs.Prelude.{◌≡◌};
 ghost use Rattle.image.specs.Instruction.{packed, operation_of, flags_of, a_of, b_of, c_of};
-ghost use Rattle.image.specs.Judge.{const_step, code_step, desc_step, frame_step};
+ghost use Rattle.image.specs.Judge.{read_number, const_step, code_step, desc_step, frame_step};
 ghost use Rattle.image.specs.Frames.{payload, most_of};
 
-// What an image is refused for, with the documents' numbers.
+// What an image is refused for.
 #[derive(Clone, Copy, Debug, PartialEq, Eq)]
 pub enum ReadError {
     // A line is empty, is no lowercase hexadecimal digits in pairs, or lacks its LF.
-    BrokenLine = 1,
+    BrokenLine,
     // A line says nothing that a frame can say, or a frame that may not stand there.
-    BadFrame = 2,
+    BadFrame,
     // A limit is passed.
-    PastLimit = 3,
+    PastLimit,
     // There is no last frame, or a byte after it.
-    WrongEnd = 4,
+    WrongEnd,
     // The lent slices are too short.
-    ShortStorage = 5,
+    ShortStorage,
+    // Another number. No image is refused for one; a frame that was not read from an image may be bad for one, as what a
+    // storage holds is for 6.
+    Other(u8),
+}
+
+impl ReadError {
+    // The documents' number.
+    pub fn number(self) -> u8
+        ensures { result ≡ read_number self }
+    {
+        match self {
+            ReadError::BrokenLine => 1,
+            ReadError::BadFrame => 2,
+            ReadError::PastLimit => 3,
+            ReadError::WrongEnd => 4,
+            ReadError::ShortStorage => 5,
+            ReadError::Other(n) => n,
+        }
+    }
 }
 
 // An image is refused: for what, and at which line.

@@ -65,7 +65,7 @@ fn print_answer(rt: &impl Print, r: Result<usize, ReadRefusal>) -> io::Result<()
             print(rt, n as u64)
         }
         Err(refusal) => {
-            print(rt, refusal.error as u64)?;
+            print(rt, refusal.error.number() as u64)?;
             print(rt, refusal.line as u64)
         }
     }
@@ -78,7 +78,7 @@ fn print_wrote(rt: &impl Print, r: Result<usize, WriteRefusal>) -> io::Result<()
             print(rt, n as u64)
         }
         Err(refusal) => {
-            print(rt, refusal as u64)?;
+            print(rt, refusal.number() as u64)?;
             print(rt, 0)
         }
     }

@@ -36,13 +36,16 @@ pub fn digit_at(line: &[u8], at: usize, i: usize) -> usize
     ((b % 16 + b / 64 * 9) % 16) as usize
 }
 
-// The number that the n hexadecimal digits from `at` on say. Past the end every digit is 0.
-#[tactic(auto, unfolding(crate::specs::Lines::number_at))]
+// The number that the n hexadecimal digits from `at` on say. Past the end every digit is 0: once the number is, it stays.
+#[tactic(auto, using(crate::proofs::Digits::over), unfolding(crate::specs::Lines::number_at))]
 pub fn number_at(line: &[u8], at: usize, n: usize) -> u64
     ensures { result ≡ number_at n line.now at }
 {
     let mut v: u64 = 0;
     for i in 0..n {
+        if (line.len() <= i) & (v == 0) {
+            return 0;
+        }
         let d = digit_at(line, at, i) as u64;
         v = (v % 0x1000_0000_0000_0000) * 16 + d;
     }

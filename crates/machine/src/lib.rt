@@ -33,7 +33,7 @@ pub fn read_answer(r: Result<usize, ReadRefusal>) -> Outcome
 {
     match r {
         Ok(_) => Outcome::new(0, 0, 0, 0),
-        Err(refusal) => Outcome::new(refusal.error as u8, 0, 0, refusal.line),
+        Err(refusal) => Outcome::new(refusal.error.number(), 0, 0, refusal.line),
     }
 }
 
@@ -42,7 +42,7 @@ pub fn write_answer(r: Result<usize, WriteRefusal>) -> Outcome
 {
     match r {
         Ok(_) => Outcome::new(0, 0, 0, 0),
-        Err(refusal) => Outcome::new(refusal as u8, 0, 0, 0),
+        Err(refusal) => Outcome::new(refusal.number(), 0, 0, 0),
     }
 }
 

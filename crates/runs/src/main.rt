@@ -237,7 +237,7 @@ fn run(rt: &impl Print, s: &[u8]) -> io::Result<u8> {
     );
     if let Err(refusal) = r {
         rt.println("not read")?;
-        return Ok(refusal.error as u8);
+        return Ok(refusal.error.number());
     }
     let mut frames = [0u64; state::FRAMES];
     let mut kinds = [0u8; state::REGISTERS];

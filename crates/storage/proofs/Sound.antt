@@ -9,7 +9,7 @@ use lib.Dec.{leb, ltb, eqb}
 use borrow.Author.Tests.{ltb-true, ltb-false, leb-true, eqb-true, eqb-false}
 use Rattle.image.specs.Frames.{F, opens, const, str, code, ends, bad, desc, shape, most_of}
 use Rattle.image.specs.declared.ReadError.{ReadError}
-use Rattle.image.specs.declared.ReadError.TheVariants.{BadFrame}
+use Rattle.image.specs.declared.ReadError.TheVariants.{Other}
 use Rattle.image.specs.declared.Frame.{Frame}
 use Rattle.image.specs.declared.Frame.TheVariants.{Open, Const, Str, Code, End, Bad, Desc}
 use Rattle.choices.proofs.Choices.{cond_cases, by_order}
@@ -79,8 +79,8 @@ module _ (t : Tops) (S : Storage) (bytes : AllBytes S.texts) (few : t.entries �
           told = refl;
           left = passed;
         })
-        (λ b. none BadFrame))
-        (λ a. none BadFrame)
+        (λ b. none (Other 6)))
+        (λ a. none (Other 6))
 
     module _ (a : t.consts < length S.kinds) (b : t.consts < length S.words) where
       word_sound : get_or S.kinds t.consts 0 < 4 → get_or S.words t.consts 0 ≤ most_of (get_or S.kinds t.consts 0)
@@ -127,9 +127,9 @@ module _ (t : Tops) (S : Storage) (bytes : AllBytes S.texts) (few : t.entries �
           cond_cases Sound (leb (t.texts * 65536) w) _ _
           (λ h. cond_cases Sound (leb n 64) _ _
           (λ i. cond_cases Sound (leb (t.texts + n) (length S.texts)) _ _
-          (λ j. text_here n g (back (t.texts * 65536) w (leb-true _ _ h)) (leb-true _ _ i) (leb-true _ _ j)) (λ j. none BadFrame))
-          (λ i. none BadFrame))
-          (λ h. none BadFrame)
+          (λ j. text_here n g (back (t.texts * 65536) w (leb-true _ _ h)) (leb-true _ _ i) (leb-true _ _ j)) (λ j. none (Other 6)))
+          (λ i. none (Other 6)))
+          (λ h. none (Other 6))
 
     const_sound : Sound (next_const t S.kinds S.words S.texts)
     unfolding next_const
@@ -139,10 +139,10 @@ module _ (t : Tops) (S : Storage) (bytes : AllBytes S.texts) (few : t.entries �
         (λ a. cond_cases Sound (ltb t.consts (length S.words)) _ _
         (λ b. cond_cases Sound (ltb k 4) _ _
         (λ c. cond_cases Sound (leb (get_or S.words t.consts 0) (most_of k)) _ _
-        (λ d. word_sound (ltb-true _ _ a) (ltb-true _ _ b) (ltb-true _ _ c) (leb-true _ _ d)) (λ d. none BadFrame))
-        (λ c. cond_cases Sound (eqb k 4) _ _ (λ d. text_sound (ltb-true _ _ a) (ltb-true _ _ b) (eqb-true _ _ d)) (λ d. none BadFrame)))
-        (λ b. none BadFrame))
-        (λ a. none BadFrame)
+        (λ d. word_sound (ltb-true _ _ a) (ltb-true _ _ b) (ltb-true _ _ c) (leb-true _ _ d)) (λ d. none (Other 6)))
+        (λ c. cond_cases Sound (eqb k 4) _ _ (λ d. text_sound (ltb-true _ _ a) (ltb-true _ _ b) (eqb-true _ _ d)) (λ d. none (Other 6))))
+        (λ b. none (Other 6)))
+        (λ a. none (Other 6))
 
     module _
         (room : t.entries + 4 ≤ length S.table) (cs : get_or S.table (t.entries + 2) 0 ≡ t.consts)
@@ -167,7 +167,7 @@ module _ (t : Tops) (S : Storage) (bytes : AllBytes S.texts) (few : t.entries �
             told = refl;
             left = passed;
           })
-          (λ b. none BadFrame))
+          (λ b. none (Other 6)))
           (λ a. cond_cases Sound (leb r 255) _ _
           (λ b. cond_cases Sound (leb p r) _ _
           (λ c n. record {
@@ -176,8 +176,8 @@ module _ (t : Tops) (S : Storage) (bytes : AllBytes S.texts) (few : t.entries �
             told = refl;
             left = passed;
           })
-          (λ c. none BadFrame))
-          (λ b. none BadFrame))
+          (λ c. none (Other 6)))
+          (λ b. none (Other 6)))
 
   -- ---- a descriptor, and all together
 
@@ -192,7 +192,7 @@ module _ (t : Tops) (S : Storage) (bytes : AllBytes S.texts) (few : t.entries �
         told = refl;
         left = (o, omega arith);
       })
-      (λ a. none BadFrame)
+      (λ a. none (Other 6))
 
   pub sound : Sound (next_in t S)
   unfolding next_frame
@@ -206,6 +206,6 @@ module _ (t : Tops) (S : Storage) (bytes : AllBytes S.texts) (few : t.entries �
       (λ b. cond_cases Sound (eqb t.consts cs) _ _
       (λ c. cond_cases Sound (ltb t.codes ks) _ _ (λ d. code_sound o)
       (λ d. cond_cases Sound (eqb t.codes ks) _ _
-      (λ e. entry_sound o (leb-true _ _ a) (sym (eqb-true _ _ c)) (sym (eqb-true _ _ e))) (λ e. none BadFrame)))
-      (λ c. none BadFrame))))
-      (λ a. none BadFrame)
+      (λ e. entry_sound o (leb-true _ _ a) (sym (eqb-true _ _ c)) (sym (eqb-true _ _ e))) (λ e. none (Other 6))))
+      (λ c. none (Other 6)))))
+      (λ a. none (Other 6))

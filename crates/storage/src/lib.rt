@@ -214,15 +214,15 @@ fn next_text(top: usize, w: u64, n: usize) -> Frame
 {
     let base = (top as u64) * 65536;
     if w < base {
-        return Frame::Bad(ReadError::BadFrame);
+        return Frame::Bad(ReadError::Other(6));
     }
     let len = w - base;
     if 64 < len {
-        return Frame::Bad(ReadError::BadFrame);
+        return Frame::Bad(ReadError::Other(6));
     }
     let m = len as usize;
     if n < top + m {
-        return Frame::Bad(ReadError::BadFrame);
+        return Frame::Bad(ReadError::Other(6));
     }
     Frame::Str(m)
 }
@@ -234,10 +234,10 @@ fn next_const(t: Tops, const_kinds: &[u8], const_words: &[u64], texts: &[u8]) ->
     let c = t.consts;
     let top = t.texts;
     if const_kinds.len() <= c {
-        return Frame::Bad(ReadError::BadFrame);
+        return Frame::Bad(ReadError::Other(6));
     }
     if const_words.len() <= c {
-        return Frame::Bad(ReadError::BadFrame);
+        return Frame::Bad(ReadError::Other(6));
     }
     let kind = const_kinds[c];
     let w = const_words[c];
@@ -245,12 +245,12 @@ fn next_const(t: Tops, const_kinds: &[u8], const_words: &[u64], texts: &[u8]) ->
         if w <= image::most_of(kind) {
             return Frame::Const(kind, w);
         }
-        return Frame::Bad(ReadError::BadFrame);
+        return Frame::Bad(ReadError::Other(6));
     }
     if kind == 4 {
         return next_text(top, w, texts.len());
     }
-    Frame::Bad(ReadError::BadFrame)
+    Frame::Bad(ReadError::Other(6))
 }
 
 fn next_code(t: Tops, code: &[u64]) -> Frame
@@ -258,13 +258,13 @@ fn next_code(t: Tops, code: &[u64]) -> Frame
 {
     let k = t.codes;
     if code.len() <= k {
-        return Frame::Bad(ReadError::BadFrame);
+        return Frame::Bad(ReadError::Other(6));
     }
     let w = code[k];
     if w < 0x100_0000_0000 {
         return Frame::Code(w);
     }
-    Frame::Bad(ReadError::BadFrame)
+    Frame::Bad(ReadError::Other(6))
 }
 
 // An entry of the table: of no registers, the closing one.
@@ -277,13 +277,13 @@ fn next_entry(t: Tops, r: u64, p: u64) -> Frame
             let at = t.entries;
             return Frame::End((at / 4) as u8);
         }
-        return Frame::Bad(ReadError::BadFrame);
+        return Frame::Bad(ReadError::Other(6));
     }
     if 255 < r {
-        return Frame::Bad(ReadError::BadFrame);
+        return Frame::Bad(ReadError::Other(6));
     }
     if r < p {
-        return Frame::Bad(ReadError::BadFrame);
+        return Frame::Bad(ReadError::Other(6));
     }
     Frame::Open(r as u8, p as u8)
 }
@@ -295,7 +295,7 @@ fn next_desc(w: usize) -> Frame
     if w < 512 {
         return Frame::Desc((w / 256) as u8, (w % 256) as u8);
     }
-    Frame::Bad(ReadError::BadFrame)
+    Frame::Bad(ReadError::Other(6))
 }
 
 // How many descriptors the prototype that was opened last has; 0 where none is open.
@@ -324,7 +324,7 @@ fn next_from(
     let c = t.consts as u64;
     let k = t.codes as u64;
     if table.len() < at + 4 {
-        return Frame::Bad(ReadError::BadFrame);
+        return Frame::Bad(ReadError::Other(6));
     }
     let d = t.descs;
     if d < descriptors_here(table, at) {
@@ -342,9 +342,9 @@ fn next_from(
         if k == ks {
             return next_entry(t, table[at], table[at + 1]);
         }
-        return Frame::Bad(ReadError::BadFrame);
+        return Frame::Bad(ReadError::Other(6));
     }
-    Frame::Bad(ReadError::BadFrame)
+    Frame::Bad(ReadError::Other(6))
 }
 
 // How many bytes a frame's line has.

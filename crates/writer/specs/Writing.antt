@@ -6,12 +6,13 @@ use Rattle.image.specs.Write.{hex_of}
 use Rattle.storage.specs.Layout.{Storage, long_enough, laid}
 use Rattle.storage.specs.Stored.{image_in, reads_back}
 use Rattle.writer.specs.declared.WriteRefusal.{WriteRefusal}
-use Rattle.writer.specs.declared.WriteRefusal.TheVariants.{TooShort, NoImage}
+use Rattle.writer.specs.declared.WriteRefusal.TheVariants.{TooShort, NoImage, Other}
 
--- the numbers of the refusals
+-- the numbers of the refusals; one that is neither stands for itself
 abbrev pub write_number : WriteRefusal → ℕ
 write_number TooShort = 5
 write_number NoImage = 6
+write_number (Other n) = n
 
 -- how many bytes were written, or why none
 abbrev pub Wrote : Type 0

@@ -9,16 +9,31 @@ ghost use Rattle.image.specs.Write.{written};
 ghost use Rattle.storage.specs.Layout.{storage, storage_in};
 ghost use Rattle.storage.specs.Fields.{prototypes_of};
 ghost use Rattle.storage.specs.Stored.{const_frame, const_frames, code_frames, desc_frames, proto_frames, image_in};
-ghost use Rattle.writer.specs.Writing.{Written, line_of, Lined};
+ghost use Rattle.writer.specs.Writing.{write_number, Written, line_of, Lined};
 ghost use Rattle.writer.specs.Putting.{Room, Put, Slim, Narrow};
 
-// Why nothing is written, with the documents' numbers.
+// Why nothing is written.
 #[derive(Clone, Copy, Debug, PartialEq, Eq)]
 pub enum WriteRefusal {
     // The lent slices are too short, or the output is shorter than the image.
-    TooShort = 5,
+    TooShort,
     // No image reads to the storage.
-    NoImage = 6,
+    NoImage,
+    // Another number: `write` answers none.
+    Other(u8),
+}
+
+impl WriteRefusal {
+    // The documents' number.
+    pub fn number(self) -> u8
+        ensures { result ≡ write_number self }
+    {
+        match self {
+            WriteRefusal::TooShort => 5,
+            WriteRefusal::NoImage => 6,
+            WriteRefusal::Other(n) => n,
+        }
+    }
 }
 
 // ---- the storage's frames in their order, each put behind the one before; the place after the last is answered

@@ -7,7 +7,7 @@ pub loop-i-init : goal.loop-i-init
 loop-i-init g c = stores-start _ _ _ _ _
 
 pub loop-i-preserved : goal.loop-i-preserved
-loop-i-preserved g c = c.loop-i.invariant ∙ stores-more _ _ _ _ _ _ _ _ c.loop-i-test.true refl c.put.ensures
+loop-i-preserved g c = c.loop-i.invariant ∙ stores-more _ _ _ _ _ _ _ _ c.loop-i-test.true refl refl
 
 pub returns : goal.returns
 returns g c = sym (stores-most _ _ _ _ _ _ c.room-i-end.ensures ∙ c.loop-i.invariant ∙ stores-end _ _ _ _ _ _ c.loop-i-test.false)
