@@ -2,7 +2,6 @@
 use Rattle.std.proofs.Common.{◌≡◌, ℕ, zero, suc, ◌+◌, ◌-◌, ◌*◌, ◌%◌, ◌^◌, ◌<◌, ◌≤◌, Bool, true, false, cond, ◌&&◌, ◌||◌, eqb, ltb, leb, List, [], ◌∷◌, length, get_or, take, drop, Option, Some, None, sym, refl, ap, ◌∙◌, le_of_eq, length-drop, take_all, mod-eq_of_lt, arith, leb-true}
 use Rattle.std.specs.List.{prefix_len}
 use Rattle.std.proofs.lemmas.Bool.Decides.{nat_tests}
-use Rattle.std.specs.Char.{digit_value}
 use Rattle.choices.proofs.Choices.{by_bool, and_left}
 use lib.Dec.{eqb-suc-zero}
 use Rattle.figures.specs.Texts.{first, rest, is_empty, blank, drop_blanks, only_blanks, is_minus, behind_sign, digit, digit_in, digits, after_digits, value_from, zeros}
@@ -81,11 +80,6 @@ sign-fits l = by_bool (eqb (get_or l 0 0) 45 || eqb (get_or l 0 0) 43) (λ h. rw
 
 pub at_least : (n b last : ℕ) → leb n b && leb b last ≡ true → n ≤ b
 at_least n b last h = leb-true n b (and_left (leb n b) (leb b last) h)
-
--- std's digits go on to base 36
-pub digit-is : (base b : ℕ) → base ≤ 16 → digit_in base b ≡ cond (ltb (digit_value b) base) (Some (digit_value b)) None
-unfolding digit
-digit-is base b h = grind (arith, nat_tests)
 
 pub digits-next : (base : ℕ) (l : List ℕ) (c : ℕ) → 1 ≤ length l → digit_in base (get_or l 0 0) ≡ Some c
     → (digits base l ≡ c ∷ digits base (behind 1 l)) × (after_digits base l ≡ after_digits base (behind 1 l))

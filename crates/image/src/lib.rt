@@ -20,8 +20,8 @@ pub enum ReadError {
     WrongEnd,
     // The lent slices are too short.
     ShortStorage,
-    // Another number. No image is refused for one; a frame that was not read from an image may be bad for one, as what a
-    // storage holds is for 6.
+    // Another number. No image is refused for one; a frame that was not read from an image may be bad for one: `storage` gives
+    // 6 for a place that holds no frame.
     Other(u8),
 }
 
